@@ -1,0 +1,1 @@
+// Words, texts, records and what the program prints: definitions alone, in specs/.

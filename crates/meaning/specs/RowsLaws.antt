@@ -1,0 +1,190 @@
+-- Laws of Rows.antt, and of tests joined by `&&`.
+use mathlib.Core.Path.{_≡_, refl, sym, ap, _∙_}
+use mathlib.Core.Logic.{_≢_, _⊎_, inl, inr, _↔_}
+use Prim.Native.Nat.{ℕ, zero, suc, _+_, _-_, _≤_, _<_}
+use native.Mathlib.Nat.{lt-of-lt-of-le, suc-add, add-suc}
+use native.Mathlib.Omega.{arith}
+use native.Mathlib.Decide.{ℕ-discrete, decLe}
+use mathlib.Core.Bool.{Bool, true, false, not, cond, _&&_, _||_, true≢false, false≢true}
+use mathlib.Core.List.{List, [], _∷_}
+use lib.ListN.{length, getD}
+use borrow.Author.Tests.{not-true, not-false}
+use Rattle.meaning.specs.Rows.{least, some, every, count, table}
+
+-- ---- tests
+
+pub which : (b : Bool) → (b ≡ true) ⊎ (b ≡ false)
+which true = inl refl
+which false = inr refl
+
+pub and-l : (a b : Bool) → (a && b) ≡ true → a ≡ true
+and-l true b e = refl
+and-l false b e = e
+
+pub and-r : (a b : Bool) → (a && b) ≡ true → b ≡ true
+and-r true b e = e
+and-r false b e = absurd (false≢true e)
+
+pub and-both : (a b : Bool) → a ≡ true → b ≡ true → (a && b) ≡ true
+and-both a b p q = rw (p, q)
+
+pub or-cases : (a b : Bool) → (a || b) ≡ true → (a ≡ true) ⊎ (b ≡ true)
+or-cases true b e = inl refl
+or-cases false b e = inr e
+
+pub or-l : (a b : Bool) → a ≡ true → (a || b) ≡ true
+or-l a b p = rw p
+
+pub or-r : (a b : Bool) → b ≡ true → (a || b) ≡ true
+or-r true b p = refl
+or-r false b p = p
+
+pub true-not : (b : Bool) → b ≡ true → not b ≡ false
+true-not b e = rw e
+
+pub false-not : (b : Bool) → b ≡ false → not b ≡ true
+false-not b e = rw e
+
+-- two tests that pass together are one
+pub same-test : (a b : Bool) → (a ≡ true → b ≡ true) → (b ≡ true → a ≡ true) → a ≡ b
+same-test true b f g = sym (f refl)
+same-test false true f g = g refl
+same-test false false f g = refl
+
+-- ---- some and every
+
+pub some-no : (p : ℕ → Bool) (i n : ℕ) → some p i n ≡ false → (k : ℕ) → i ≤ k → k < i + n → p k ≡ false
+unfolding some
+some-no p i zero e k a b = absurd (omega arith)
+some-no p i (suc n) e k a b = elim (which (p i)) [
+  | inl f ↦ absurd (true≢false (rw (some, f) at e))
+  | inr f ↦ elim (ℕ-discrete k i) [ yes y ↦ rw y f | no y ↦ some-no p (suc i) n (rw (some, f) at e) k (omega arith) (omega arith) ]
+]
+
+pub some-yes : (p : ℕ → Bool) (i n : ℕ) → some p i n ≡ true → (k : ℕ) × (i ≤ k) × (k < i + n) × (p k ≡ true)
+unfolding some
+some-yes p i zero e = absurd (false≢true e)
+some-yes p i (suc n) e = elim (which (p i)) [
+  | inl f ↦ (i, omega arith, omega arith, f)
+  | inr f ↦ (let r = some-yes p (suc i) n (rw (some, f) at e) in (r .0, omega (arith, r .1), omega (arith, r .2), r .3))
+]
+
+pub some-none : (p : ℕ → Bool) (i n : ℕ) → ((k : ℕ) → i ≤ k → k < i + n → p k ≡ false) → some p i n ≡ false
+unfolding some
+some-none p i zero h = refl
+some-none p i (suc n) h = rw (some, h i (omega arith) (omega arith)) (some-none p (suc i) n (λ k a b. h k (omega arith) (omega arith)))
+
+pub some-intro : (p : ℕ → Bool) (i n k : ℕ) → i ≤ k → k < i + n → p k ≡ true → some p i n ≡ true
+some-intro p i n k a b e = elim (which (some p i n)) [ inl f ↦ f | inr f ↦ absurd (true≢false (sym e ∙ some-no p i n f k a b)) ]
+
+-- all from 0 pass
+pub every-yes : (p : ℕ → Bool) (n : ℕ) → every p 0 n ≡ true → (k : ℕ) → k < n → p k ≡ true
+every-yes p n e k h = not-false (p k) (some-no (λ j. not (p j)) 0 n (not-true _ e) k (omega arith) (omega arith))
+
+pub every-intro : (p : ℕ → Bool) (n : ℕ) → ((k : ℕ) → k < n → p k ≡ true) → every p 0 n ≡ true
+every-intro p n h = false-not _ (some-none (λ j. not (p j)) 0 n (λ k a b. true-not (p k) (h k (omega arith))))
+
+-- ---- least
+
+pub least-from : (p : ℕ → Bool) (i n : ℕ) → i ≤ least p i n
+unfolding least
+least-from p i zero = omega arith
+least-from p i (suc n) = elim (which (p i)) [ inl e ↦ rw (least, e) (omega arith) | inr e ↦ rw (least, e) (omega (arith, least-from p (suc i) n)) ]
+
+pub least-to : (p : ℕ → Bool) (i n : ℕ) → least p i n ≤ i + n
+unfolding least
+least-to p i zero = omega arith
+least-to p i (suc n) = elim (which (p i)) [ inl e ↦ rw (least, e) (omega arith) | inr e ↦ rw (least, e) (omega (arith, least-to p (suc i) n)) ]
+
+-- none before it passes
+pub least-before : (p : ℕ → Bool) (i n k : ℕ) → i ≤ k → k < least p i n → p k ≡ false
+unfolding least
+least-before p i zero k a b = absurd (omega arith)
+least-before p i (suc n) k a b = elim (which (p i)) [
+  | inl f ↦ (let z : k < i = rw (least, f) at b in absurd (omega arith))
+  | inr f ↦ elim (ℕ-discrete k i) [ yes y ↦ rw y f | no y ↦ least-before p (suc i) n k (omega arith) (rw (least, f) at b) ]
+]
+
+-- it passes, unless none does
+pub least-passes : (p : ℕ → Bool) (i n : ℕ) → least p i n < i + n → p (least p i n) ≡ true
+unfolding least
+least-passes p i zero h = absurd (omega arith)
+least-passes p i (suc n) h = elim (which (p i)) [
+  | inl f ↦ rw (least, f) f
+  | inr f ↦ rw (least, f) (least-passes p (suc i) n (let z : least p (suc i) n < i + suc n = rw (least, f) at h in omega arith))
+]
+
+pub least-at : (p : ℕ → Bool) (i n k : ℕ) → i ≤ k → k < i + n → p k ≡ true → ((j : ℕ) → i ≤ j → j < k → p j ≡ false) → least p i n ≡ k
+unfolding least
+least-at p i zero k a b e h = absurd (omega arith)
+least-at p i (suc n) k a b e h = elim (ℕ-discrete k i) [
+  | yes y ↦ (let f : p i ≡ true = rw y at e in rw (least, f) (sym y))
+  | no y ↦ rw (least, h i (omega arith) (omega arith)) (least-at p (suc i) n k (omega arith) (omega arith) e (λ j u v. h j (omega arith) v))
+]
+
+pub least-none : (p : ℕ → Bool) (i n : ℕ) → ((k : ℕ) → i ≤ k → k < i + n → p k ≡ false) → least p i n ≡ i + n
+unfolding least
+least-none p i zero h = omega arith
+least-none p i (suc n) h = rw (least, h i (omega arith) (omega arith)) (least-none p (suc i) n (λ k a b. h k (omega arith) (omega arith)) ∙ omega arith)
+
+-- ---- count
+
+pub count-up : (p : ℕ → Bool) (s t : ℕ) → s ≤ t → count p s ≤ count p t
+unfolding count
+count-up p s zero h = let e : s ≡ 0 = omega arith in rw e (omega arith)
+count-up p s (suc t) h = elim (ℕ-discrete s (suc t)) [ yes e ↦ rw e (omega arith) | no n ↦ omega (arith, count-up p s t (omega arith)) ]
+
+-- one that passes is counted past it
+pub count-past : (p : ℕ → Bool) (s t : ℕ) → s < t → p s ≡ true → count p s < count p t
+unfolding count
+count-past p s t h e = lt-of-lt-of-le (rw (e, count) (omega arith)) (count-up p (suc s) t h)
+
+pub count-same : (p q : ℕ → Bool) (n : ℕ) → ((i : ℕ) → i < n → q i ≡ p i) → count q n ≡ count p n
+unfolding count
+count-same p q zero h = refl
+count-same p q (suc n) h = rw (h n (omega arith), count-same p q n (λ i z. h i (omega arith)))
+
+-- without one that passes there is one less
+pub count-less : (p q : ℕ → Bool) (e : ℕ) → ((i : ℕ) → i ≢ e → q i ≡ p i) → q e ≡ false → p e ≡ true → (n : ℕ) → e < n → suc (count q n) ≡ count p n
+unfolding count
+count-less p q e h f g zero z = absurd (omega arith)
+count-less p q e h f g (suc n) z = elim (ℕ-discrete n e) [
+  | yes x ↦ rw (x, f, g, count-same p q e (λ i y. h i (omega arith))) (omega arith)
+  | no x ↦ rw (h n x) (omega (arith, count-less p q e h f g n (omega arith)))
+]
+
+pub count-le : (p : ℕ → Bool) (n : ℕ) → count p n ≤ n
+unfolding count
+count-le p zero = omega arith
+count-le p (suc n) = elim (which (p n)) [ inl e ↦ rw e (omega (arith, count-le p n)) | inr e ↦ rw e (omega (arith, count-le p n)) ]
+
+-- nothing is counted exactly where nothing passes
+pub count-none : (p : ℕ → Bool) (n : ℕ) → ((i : ℕ) → i < n → p i ≡ false) → count p n ≡ 0
+unfolding count
+count-none p zero h = refl
+count-none p (suc n) h = rw (h n (omega arith), count-none p n (λ i z. h i (omega arith)))
+
+-- each number below the count is the count before one that passes
+pub count-at : (p : ℕ → Bool) (n k : ℕ) → k < count p n → (i : ℕ) × (i < n) × (p i ≡ true) × (count p i ≡ k)
+unfolding count
+count-at p zero k h = absurd (omega arith)
+count-at p (suc n) k h = elim (decLe (suc k) (count p n)) [
+  | yes l ↦ (let r = count-at p n k l in (r .0, omega (arith, r .1), r .2, r .3))
+  | no l ↦ elim (which (p n)) [
+    | inl e ↦ (n, omega arith, e, (let z : k < count p n + 1 = rw e at h in omega arith))
+    | inr e ↦ (let z : k < count p n + 0 = rw e at h in absurd (omega arith))
+  ]
+]
+
+-- ---- table
+
+pub length-table : {A : Type 0} (f : ℕ → A) (i n : ℕ) → length (table f i n) ≡ n
+unfolding table
+length-table f i zero = refl
+length-table f i (suc n) = ap suc (length-table f (suc i) n)
+
+pub getD-table : {A : Type 0} (f : ℕ → A) (i n k : ℕ) (d : A) → k < n → getD (table f i n) k d ≡ f (i + k)
+unfolding table
+getD-table f i zero k d h = absurd (omega arith)
+getD-table f i (suc n) zero d h = (let e : i + 0 ≡ i = omega arith in rw e)
+getD-table f i (suc n) (suc k) d h = (let e : i + suc k ≡ suc i + k = omega arith in rw e (getD-table f (suc i) n k d (omega arith)))
