@@ -2,11 +2,11 @@
 use Prim.Native.Nat.{ℕ}
 use Rattle.meaning.specs.Compute.{compute}
 use Rattle.format.specs.Words.{operandNumber, word, words}
-use Rattle.format.specs.Text.{digits, decimal, operandText, operatorText, line, declarations, text}
+use Rattle.format.specs.Text.{digits, decimal, operandText, operatorText, line, blockLine, declarations, text}
 use Rattle.format.specs.Places.{room}
 use Rattle.format.specs.Records.{front, pieces, withoutCr, ended, records, content, fields, same, spelt, decimalWithin, negative, decimalFits, fieldValue, recordPasses, numbers}
 use Rattle.format.specs.Printed.{recordAt, fileCheck, frameCheck, scansFileCheck, fieldChecks, naturals, tables, chartText, roomCheck, printedVerdict, comma, scanLines, refusalLine, printedAs, printed}
 
 unfoldable pub computeAll : ℕ
-unfolding compute operandNumber word words digits decimal operandText operatorText line declarations text room front pieces withoutCr ended records content fields same spelt decimalWithin negative decimalFits fieldValue recordPasses numbers recordAt fileCheck frameCheck scansFileCheck fieldChecks naturals tables chartText roomCheck printedVerdict comma scanLines refusalLine printedAs printed
+unfolding compute operandNumber word words digits decimal operandText operatorText line blockLine declarations text room front pieces withoutCr ended records content fields same spelt decimalWithin negative decimalFits fieldValue recordPasses numbers recordAt fileCheck frameCheck scansFileCheck fieldChecks naturals tables chartText roomCheck printedVerdict comma scanLines refusalLine printedAs printed
 computeAll = 0

@@ -58,11 +58,14 @@ operatorText (LdTime n) = bytes "LD T#" ++ (decimal n ++ bytes "ms")
 unfoldable pub line : List ℕ → List ℕ
 line l = l ++ (10 ∷ [])
 
+-- "T1 : TON;"
+unfoldable pub blockLine : ℕ → List ℕ
+blockLine n = line (bytes "T" ++ (decimal n ++ bytes " : TON;"))
+
 -- "if there are timers, VAR, a line "T1 : TON;" each, END_VAR"
 unfoldable pub declarations : ℕ → List ℕ
 declarations zero = []
-declarations (suc d) = line (bytes "VAR")
-    ++ (flatMap (λ n. line (bytes "T" ++ (decimal n ++ bytes " : TON;"))) (table (λ n. n) 1 (suc d)) ++ line (bytes "END_VAR"))
+declarations (suc d) = line (bytes "VAR") ++ (flatMap blockLine (table (λ n. n) 1 (suc d)) ++ line (bytes "END_VAR"))
 
 -- "PROGRAM CHART; ..; the rungs; END_PROGRAM"
 unfoldable pub text : Program → List ℕ

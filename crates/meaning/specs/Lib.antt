@@ -16,9 +16,11 @@ pub mod RuleLaws
 pub mod Verdict
 pub mod Machine
 pub mod FollowLaws
+pub mod MachineLaws
 pub mod Lent
 pub mod Calls
 pub mod History
+pub mod HistoryLaws
 pub mod Programs
 pub mod Scan
 pub mod Written

@@ -6,7 +6,7 @@ use native.Mathlib.Nat.{lt-of-lt-of-le, suc-add, add-suc}
 use native.Mathlib.Omega.{arith}
 use native.Mathlib.Decide.{ℕ-discrete, decLe}
 use mathlib.Core.Bool.{Bool, true, false, not, cond, _&&_, _||_, true≢false, false≢true}
-use mathlib.Core.List.{List, [], _∷_}
+use mathlib.Core.List.{List, [], _∷_, _++_, flatMap, append-nil, append-assoc}
 use lib.ListN.{length, getD}
 use borrow.Author.Tests.{not-true, not-false}
 use Rattle.meaning.specs.Rows.{least, some, every, count, table}
@@ -188,3 +188,19 @@ unfolding table
 getD-table f i zero k d h = absurd (omega arith)
 getD-table f i (suc n) zero d h = (let e : i + 0 ≡ i = omega arith in rw e)
 getD-table f i (suc n) (suc k) d h = (let e : i + suc k ≡ suc i + k = omega arith in rw e (getD-table f (suc i) n k d (omega arith)))
+
+-- one more at the end
+pub table-snoc : {A : Type 0} (f : ℕ → A) (i n : ℕ) → table f i (suc n) ≡ table f i n ++ (f (i + n) ∷ [])
+unfolding table
+table-snoc f i zero = (let e : i + 0 ≡ i = omega arith in rw e)
+table-snoc f i (suc n) = (let e : i + suc n ≡ suc i + n = omega arith in rw e (ap (λ l. f i ∷ l) (table-snoc f (suc i) n)))
+
+pub flatMap-append : {A B : Type 0} (f : A → List B) (xs ys : List A) → flatMap f (xs ++ ys) ≡ flatMap f xs ++ flatMap f ys
+unfolding flatMap
+flatMap-append f [] ys = refl
+flatMap-append f (x ∷ xs) ys = rw (flatMap-append f xs ys) (sym (append-assoc (f x) (flatMap f xs) (flatMap f ys)))
+
+-- one more row
+pub rows-snoc : {A : Type 0} (f : ℕ → List A) (i n : ℕ) → flatMap f (table (λ k. k) i (suc n)) ≡ flatMap f (table (λ k. k) i n) ++ f (i + n)
+unfolding flatMap
+rows-snoc f i n = ap (flatMap f) (table-snoc (λ k. k) i n) ∙ flatMap-append f (table (λ k. k) i n) ((i + n) ∷ []) ∙ ap (λ l. flatMap f (table (λ k. k) i n) ++ l) (append-nil (f (i + n)))

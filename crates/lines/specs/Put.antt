@@ -1,0 +1,54 @@
+-- What a writer leaves: the word w over the list l from the place i on, as far as l goes, and the next place, up to the largest.
+use mathlib.Core.Path.{_≡_, refl, ap, sym, _∙_}
+use mathlib.Core.List.{List, [], _∷_, _++_}
+use Prim.Native.Nat.{ℕ, zero, suc, _+_, _-_, _^_, _≤_, _<_, min}
+use native.Mathlib.Nat.{add-zero, add-suc, suc-add}
+use native.Mathlib.Decide.{decLe}
+use native.Mathlib.Omega.{arith}
+use lib.ListN.{length, set, length-append, length-set}
+use lib.Seq.{sets, set-out, length-sets}
+use Rattle.format.specs.Text.{decimal}
+
+abbrev most : ℕ
+most = 18446744073709551615
+
+-- the list m and the place r that a writer of w leaves, where it starts at the place i of l
+pub record Put (l : List ℕ) (i : ℕ) (w m : List ℕ) (r : ℕ) : Type 0 where
+  pub fits : length l ≤ most
+  pub list : m ≡ sets l i w
+  pub next : r ≡ min (i + length w) most
+
+sets-append : (v l : List ℕ) (i : ℕ) (w : List ℕ) → sets l i (v ++ w) ≡ sets (sets l i v) (i + length v) w
+sets-append [] l i w = rw add-zero
+sets-append (b ∷ v) l i w = rw (add-suc i (length v), ← suc-add i (length v)) (sets-append v (set l i b) (suc i) w)
+
+-- past the end nothing is written
+sets-out : (w l : List ℕ) (i : ℕ) → length l ≤ i → sets l i w ≡ l
+sets-out [] l i h = refl
+sets-out (b ∷ w) l i h = rw (set-out l i b h) (sets-out w l (suc i) (omega arith))
+
+-- a place beyond the largest is beyond every list
+sets-most : (l : List ℕ) (i : ℕ) (w : List ℕ) → length l ≤ most → sets l (min i most) w ≡ sets l i w
+sets-most l i w h = elim (decLe i most) [
+  | yes p ↦ (let e : min i most ≡ i = omega arith in rw e)
+  | no f ↦ sets-out w l (min i most) (omega arith) ∙ sym (sets-out w l i (omega arith))
+]
+
+-- two writers in a row
+pub put-put : {l m n v w : List ℕ} {i j k : ℕ} → Put l i v m j → Put m j w n k → Put l i (v ++ w) n k
+put-put {l} {v = v} {w} {i} p q = record {
+  fits = p .fits;
+  list = (rw (p .list, p .next) at (q .list)) ∙ sets-most (sets l i v) (i + length v) w (simp length-sets (p .fits)) ∙ sym (sets-append v l i w);
+  next = omega (arith, p .next, q .next, length-append v w);
+}
+
+pub put-none : (l : List ℕ) (i : ℕ) → length l ≤ most → i ≤ most → Put l i [] l i
+put-none l i h g = record { fits = h; list = refl; next = omega arith }
+
+-- a writer keeps the length
+pub put-length : {l w m : List ℕ} {i r : ℕ} → Put l i w m r → length m ≡ length l
+put-length {l} {w} {i = i} p = ap length (p .list) ∙ length-sets l i w
+
+-- a number between two words
+abbrev pub numbered : List ℕ → ℕ → List ℕ → List ℕ
+numbered h n t = h ++ (decimal n ++ t)
