@@ -28,3 +28,5 @@ pub mod Stands
 pub mod Compute
 pub mod Cases
 pub mod Effects
+pub mod ExecuteLaws
+pub mod ProgramLaws
