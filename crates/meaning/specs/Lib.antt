@@ -30,3 +30,11 @@ pub mod Cases
 pub mod Effects
 pub mod ExecuteLaws
 pub mod ProgramLaws
+pub mod TestLaws
+pub mod StoreLaws
+pub mod MoveLaws
+pub mod TimerLaws
+pub mod OutputLaws
+pub mod StandsLaws
+pub mod Simulate
+pub mod Demands
