@@ -18,6 +18,7 @@ pub mod Machine
 pub mod FollowLaws
 pub mod MachineLaws
 pub mod Lent
+pub mod LentLaws
 pub mod Calls
 pub mod History
 pub mod HistoryLaws
