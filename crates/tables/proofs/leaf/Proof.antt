@@ -1,0 +1,19 @@
+use Rattle.meaning.specs.Hierarchy.{leaf}
+use lib.Dec.{eqb}
+use mathlib.Core.Path.{ap}
+use borrow.Author.Needs.{needs}
+use Rattle.tables.proofs.leaf.Statement.{statement}
+use Rattle.tables.proofs.leaf.Tie as tie
+use Rattle.tables.proofs.leaf.Reads as reads
+use Rattle.tables.proofs.leaf.Lts as lts
+use Rattle.tables.proofs.sub_states.Reads as sub-states-reads
+
+sub-states-requires : tie.Need-sub-states-requires
+sub-states-requires c κs = search needs
+
+returns : tie.Need-returns
+unfolding leaf
+returns c c' e = ap (λ n. eqb n 0) (c .sub-states .ensures c' e)
+
+pub leaf-spec : {M : Type 1} → statement M
+leaf-spec = tie.close (tie.spec sub-states-requires returns)

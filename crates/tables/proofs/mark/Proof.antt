@@ -1,0 +1,31 @@
+use borrow.Author.Needs.{sfits-of}
+use Rattle.meaning.specs.Tables.{mark}
+use mir.Facts.{toZ-ofZ}
+use lib.IntN.{natAbs}
+use mathlib.Core.Path.{ap, _∙_}
+use borrow.Author.Needs.{needs}
+use Rattle.tables.proofs.mark.Statement.{statement}
+use Rattle.tables.proofs.mark.Tie as tie
+use Rattle.tables.proofs.mark.Reads as reads
+use Rattle.tables.proofs.mark.Lts as lts
+use Rattle.tables.proofs.cell.Reads as cell-reads
+use Rattle.tables.proofs.size.Reads as size-reads
+use Rattle.tables.proofs.wide.Reads as wide-reads
+
+cell-requires : tie.Need-cell-requires
+cell-requires c κs = search needs
+
+size-requires : tie.Need-size-requires
+size-requires c κs = search needs
+
+wide-requires : tie.Need-wide-requires
+wide-requires c κs = search needs
+
+returns : tie.Need-returns
+unfolding mark
+returns c c' e =
+    let v = c .before .before .cell in
+    c .wide .ensures ∙ c .before .size .ensures ∙ ap natAbs (toZ-ofZ (sfits-of (v .ok)) ∙ v .ensures c' e)
+
+pub mark-spec : {M : Type 1} → statement M
+mark-spec = tie.close (tie.spec cell-requires size-requires wide-requires returns)
