@@ -1,0 +1,79 @@
+-- From a 32-bit word back to the instruction: only operators with operands that some accepted list has.
+use Prim.Native.Nat.{ℕ, _-_, _/_, _%_}
+use mathlib.Core.Bool.{Bool, true, false, _||_, cond}
+use lib.Dec.{leb, eqb}
+use Rattle.meaning.specs.Tables.{mostTimers, mostPreset}
+use Rattle.meaning.specs.Literals.{between}
+use Rattle.meaning.specs.Programs.{testable, constant, flipFlopFits, outputFits}
+use Rattle.meaning.specs.declared.Operand.{Operand}
+use Rattle.meaning.specs.declared.Operand.the-variants.{Mx, Ix, Qx, TimerQ, TimerIn, TimerPt, Timer, False, True}
+use Rattle.meaning.specs.declared.Operator.{Operator}
+use Rattle.meaning.specs.declared.Operator.the-variants.{Ld, Ldn, And, Andn, Or, Close, St, S, R, Cal, LdTime}
+use Rattle.format.specs.declared.Decoded.{Decoded}
+use Rattle.format.specs.declared.Decoded.the-variants.{Known, Unknown}
+
+-- by what a block's operand is: Tn.IN, Tn.PT, Tn, or any other
+abbrev pub blockCase : {A : Type 0} → (ℕ → A) → (ℕ → A) → (ℕ → A) → A → Operand → A
+blockCase on pt call any (Mx n) = any
+blockCase on pt call any (Ix n) = any
+blockCase on pt call any (Qx n) = any
+blockCase on pt call any (TimerQ n) = any
+blockCase on pt call any (TimerIn n) = on n
+blockCase on pt call any (TimerPt n) = pt n
+blockCase on pt call any (Timer n) = call n
+blockCase on pt call any False = any
+blockCase on pt call any True = any
+
+-- Tn.IN or Tn.PT of a block that there may be
+unfoldable pub inputFits : Operand → Bool
+inputFits = blockCase (between 1 mostTimers) (between 1 mostTimers) (λ n. false) false
+
+-- Tn likewise
+unfoldable pub blockFits : Operand → Bool
+blockFits = blockCase (λ n. false) (λ n. false) (between 1 mostTimers) false
+
+-- some accepted list has it
+unfoldable pub instruction : Operator → Bool
+instruction (Ld o) = testable mostTimers o || constant o
+instruction (Ldn o) = testable mostTimers o
+instruction (And o) = testable mostTimers o
+instruction (Andn o) = testable mostTimers o
+instruction Or = true
+instruction Close = true
+instruction (St o) = flipFlopFits o || outputFits o || inputFits o
+instruction (S o) = flipFlopFits o
+instruction (R o) = flipFlopFits o
+instruction (Cal o) = blockFits o
+instruction (LdTime n) = between 1 mostPreset n
+
+-- the operand of a number; T0, which nothing takes, where there is none
+unfoldable pub operandOf : ℕ → Operand
+operandOf n = cond (leb n 384) (Mx n)
+    (cond (leb n 512) (Ix (n - 384))
+    (cond (leb n 768) (Qx (n - 512))
+    (cond (leb n 1024) (TimerQ (n - 768))
+    (cond (leb n 1280) (TimerIn (n - 1024))
+    (cond (leb n 1536) (TimerPt (n - 1280))
+    (cond (leb n 1999) (Timer (n - 1536))
+    (cond (eqb n 2000) False
+    (cond (eqb n 2001) True (Timer 0)))))))))
+
+unfoldable pub kept : Operator → Decoded
+kept i = cond (instruction i) (Known i) Unknown
+
+-- operator k with operand m
+unfoldable pub unpacked : ℕ → ℕ → Decoded
+unpacked k m = cond (eqb k 1) (kept (Ld (operandOf m)))
+    (cond (eqb k 2) (kept (Ldn (operandOf m)))
+    (cond (eqb k 3) (kept (And (operandOf m)))
+    (cond (eqb k 4) (kept (Andn (operandOf m)))
+    (cond (eqb k 5) (cond (eqb m 0) (Known Or) Unknown)
+    (cond (eqb k 6) (cond (eqb m 0) (Known Close) Unknown)
+    (cond (eqb k 7) (kept (St (operandOf m)))
+    (cond (eqb k 8) (kept (S (operandOf m)))
+    (cond (eqb k 9) (kept (R (operandOf m)))
+    (cond (eqb k 10) (kept (Cal (operandOf m)))
+    (cond (eqb k 11) (kept (LdTime m)) Unknown))))))))))
+
+unfoldable pub decoded : ℕ → Decoded
+decoded n = unpacked (n / 134217728) (n % 134217728)
