@@ -1,0 +1,19 @@
+use Rattle.format.specs.Decode.{decoded}
+use borrow.Author.Needs.{needs}
+use Rattle.decode.proofs.decode.Statement.{statement}
+use Rattle.decode.proofs.decode.Tie as tie
+use Rattle.decode.proofs.decode.Reads as reads
+use Rattle.decode.proofs.decode.Lts as lts
+use Rattle.decode.proofs.unpack.Reads as unpack-reads
+
+-- src/lib.rt:196:5
+unpack-requires : tie.Need-unpack-requires
+unpack-requires c κs = search needs
+
+-- src/lib.rt:193:1
+returns : tie.Need-returns
+unfolding decoded
+returns c = rw (c .unpack .ensures)
+
+pub decode-spec : {M : Type 1} → statement M
+decode-spec = tie.close (tie.spec unpack-requires returns)
