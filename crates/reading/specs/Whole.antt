@@ -1,0 +1,244 @@
+-- A file, record after record, from a fresh reader to its answer.
+use mathlib.Core.Path.{_≡_, refl, sym, ap, _∙_}
+use mathlib.Core.Logic.{_⊎_, inl, inr}
+use Prim.Native.Nat.{ℕ, zero, suc, _+_, _-_, _≤_, _<_}
+use native.Mathlib.Omega.{arith}
+use native.Mathlib.Numerals.{add-one}
+use mathlib.Core.Bool.{Bool, true, false, _&&_, _||_, not, cond, true≢false, false≢true}
+use mathlib.Core.List.{List, [], _∷_, _++_, flatMap, append-assoc, append-nil}
+use lib.ListN.{length}
+use lib.Dec.{leb, ltb, eqb}
+use borrow.Author.Tests.{lt-ltb, le-ltb, le-leb, lt-leb, leb-true, leb-false, not-true, eq-eqb, ne-eqb, ltb-false, ltb-true, eqb-true}
+use Rattle.meaning.specs.Programs.{all}
+use Rattle.meaning.specs.RowsLaws.{which, and-l, and-r, and-both}
+use Rattle.meaning.specs.declared.Refusal.the-variants as R
+use Rattle.format.specs.Records.{front, pieces, withoutCr, ended}
+use Rattle.field.specs.declared.Phase.{Phase}
+use Rattle.field.specs.declared.Phase.the-variants.{Fresh, Empty, Quote, Minus, Number, Closed, Return, Bad}
+use Rattle.field.specs.declared.Decimal.{Decimal}
+use Rattle.field.specs.declared.Decimal.the-variants.{Is, IsNot}
+use Rattle.records.specs.declared.Answer.{Answer}
+use Rattle.records.specs.declared.Answer.the-variants.{Rows, Refused}
+use Rattle.records.specs.declared.Reader.{Reader}
+use Rattle.field.specs.Field.{top, phaseAfter, decimalOf, returned, untouched, failed}
+use Rattle.records.specs.Automaton.{up, moved, bad, ends, fits, passed, taken, fieldEnd, feedByte, emits, feedAll, emitted, atEnd, answerOf}
+use Rattle.records.specs.StepLaws.{fresh-emits-lf}
+use Rattle.records.specs.Pieces.{feed-append, emitted-append}
+use Rattle.reading.specs.Lines.{pieces-cons, trimmed, restPasses, restNumbers, Passed, Failed, Outcome, closed, after-live, bad-byte, Plain, line}
+
+-- ---- the bytes of a file by its LFs
+
+unfoldable pub joined : List (List ℕ) → List ℕ
+joined [] = []
+joined (p ∷ []) = p
+joined (p ∷ q ∷ ps) = p ++ (10 ∷ joined (q ∷ ps))
+
+joined-front : (b : ℕ) (p : List ℕ) (ps : List (List ℕ)) → joined ((b ∷ p) ∷ ps) ≡ b ∷ joined (p ∷ ps)
+unfolding joined
+joined-front b p [] = refl
+joined-front b p (q ∷ ps) = refl
+
+pub joined-pieces : (bs : List ℕ) → joined (pieces 10 bs) ≡ bs
+unfolding joined pieces front
+joined-pieces [] = refl
+joined-pieces (b ∷ bs) = (let c = pieces-cons 10 bs in let ih : joined (c .0 ∷ c .1) ≡ bs = rw (c .2) at (joined-pieces bs) in
+    elim (which (eqb b 10)) [
+      | inl e ↦ rw (e, c .2, ih, eqb-true b 10 e)
+      | inr e ↦ rw (e, c .2, joined-front b (c .0) (c .1), ih)
+    ])
+
+abbrev pub noLf : List ℕ → Bool
+noLf q = all (λ b. not (eqb b 10)) q
+
+front-plain : (b : ℕ) (ps : List (List ℕ)) → eqb b 10 ≡ false → all noLf ps ≡ true → all noLf (front b ps) ≡ true
+unfolding all front
+front-plain b [] e h = rw e
+front-plain b (p ∷ ps) e h = rw e h
+
+pub plain-pieces : (bs : List ℕ) → all noLf (pieces 10 bs) ≡ true
+unfolding all pieces front
+plain-pieces [] = refl
+plain-pieces (b ∷ bs) = elim (which (eqb b 10)) [
+  | inl e ↦ rw e (plain-pieces bs)
+  | inr e ↦ rw e (front-plain b (pieces 10 bs) e (plain-pieces bs))
+]
+
+-- ---- a reader that has failed, or has no room for a record
+
+abbrev pub start : Reader → ℕ → ℕ → Reader
+start r k a = moved r Fresh k (r .more) a
+
+over-byte : (s : Reader) (b : ℕ) → s .limit ≤ s .record_no → feedByte s b ≡ bad s
+unfolding feedByte
+over-byte s b h = rw (le-leb (s .limit) (s .record_no) h)
+
+module _ (r : Reader) where
+  abbrev dead : ℕ → ℕ → ℕ → Reader
+  dead k l a = moved r Bad k l a
+
+  dead-byte : (k l a b : ℕ) → feedByte (dead k l a) b ≡ dead k l a
+  dead-byte k l a b = elim (which (leb (r .limit) k)) [
+    | inl e ↦ over-byte (dead k l a) b (leb-true (r .limit) k e)
+    | inr e ↦ bad-byte (dead k l a) (leb-false (r .limit) k e) l a b
+  ]
+
+  dead-all : (bs : List ℕ) (k l a : ℕ) → feedAll (dead k l a) bs ≡ dead k l a
+  unfolding feedAll
+  dead-all [] k l a = refl
+  dead-all (b ∷ bs) k l a = rw (dead-byte k l a b) (dead-all bs k l a)
+
+  -- the answer of a reader that has failed
+  dead-answer : (k l a : ℕ) → answerOf (atEnd (dead k l a)) ≡ Refused (R.Field k)
+  unfolding atEnd answerOf
+  dead-answer k l a = rw (dead-byte k l a 10)
+
+  over-all : (bs : List ℕ) (k a : ℕ) → r .limit ≤ k → (bs ≡ [] → ⊥) → feedAll (start r k a) bs ≡ dead k (r .more) a
+  unfolding feedAll
+  over-all [] k a h n = absurd (n refl)
+  over-all (b ∷ bs) k a h n = rw (over-byte (start r k a) b h) (dead-all bs k (r .more) a)
+
+-- ---- a record that has begun
+
+passed-touched : (s : Reader) (b a : ℕ) → eqb b 10 ≡ false → ends b ≡ true → untouched (passed s b a .phase) ≡ false
+unfolding passed
+passed-touched s b a e f = elim (which (eqb b 44)) [
+  | inl g ↦ rw g
+  | inr g ↦ elim (which (eqb b 13)) [ inl h ↦ rw (g, h) | inr h ↦ (let z : false ≡ true = rw (g, e, h) at f in absurd (false≢true z)) ]
+]
+
+taken-touched : (d : Decimal) (s : Reader) (b : ℕ) → eqb b 10 ≡ false → ends b ≡ true → untouched (taken d s b .phase) ≡ false
+unfolding taken
+taken-touched (Is v) s b e f = passed-touched s b (up (s .at)) e f
+taken-touched IsNot s b e f = refl
+
+byte-touched : (s : Reader) (b : ℕ) → eqb b 10 ≡ false → untouched (feedByte s b .phase) ≡ false
+unfolding feedByte fieldEnd
+byte-touched s b e = elim (which (leb (s .limit) (s .record_no))) [
+  | inl f ↦ rw f
+  | inr f ↦ rw f (elim (which (ends b)) [
+    | inr g ↦ rw g (after-live (s .most) (s .below) (s .phase) b .1)
+    | inl g ↦ rw (g, e) (elim (which (fits (s .left) b)) [ inl h ↦ rw h (taken-touched (decimalOf (s .phase)) s b e g) | inr h ↦ rw h ])
+  ])
+]
+
+touched : (q : List ℕ) (s : Reader) → noLf q ≡ true → untouched (s .phase) ≡ false → untouched (feedAll s q .phase) ≡ false
+unfolding feedAll all
+touched [] s h u = u
+touched (b ∷ q) s h u = touched q (feedByte s b) (and-r (not (eqb b 10)) (noLf q) h) (byte-touched s b (not-true (eqb b 10) (and-l (not (eqb b 10)) (noLf q) h)))
+
+-- the end of the file after some bytes
+end-closed : (s : Reader) → untouched (s .phase) ≡ false → atEnd s ≡ closed false s
+unfolding atEnd closed
+end-closed s u = rw u
+
+end-line : (b : ℕ) (q : List ℕ) (s : Reader) → noLf (b ∷ q) ≡ true → atEnd (feedAll s (b ∷ q)) ≡ closed false (feedAll s (b ∷ q))
+unfolding feedAll all
+end-line b q s h = end-closed (feedAll (feedByte s b) q)
+    (touched q (feedByte s b) (and-r (not (eqb b 10)) (noLf q) h) (byte-touched s b (not-true (eqb b 10) (and-l (not (eqb b 10)) (noLf q) h))))
+
+-- ---- the file
+
+-- what the records xs come to, the first of them being number k
+unfoldable pub upshot : Reader → ℕ → List (List ℕ) → Answer
+upshot r k [] = cond (ltb k (r .least)) (Refused (R.Field k)) (Rows k)
+upshot r k (x ∷ xs) = cond (ltb k (r .limit) && restPasses (r .most) (r .below) Fresh (r .more) (pieces 44 x)) (upshot r (suc k) xs) (Refused (R.Field k))
+
+unfoldable pub recordNumbers : Reader → List ℕ → List ℕ
+recordNumbers r x = restNumbers (r .most) (r .below) Fresh (pieces 44 x)
+
+pub record Told (r : Reader) (k a : ℕ) (bs : List ℕ) (xs : List (List ℕ)) : Type 0 where
+  pub answer : answerOf (atEnd (feedAll (start r k a) bs)) ≡ upshot r k xs
+  pub numbers : (n : ℕ) → upshot r k xs ≡ Rows n → emitted (start r k a) bs ++ emits (feedAll (start r k a) bs) 10 ≡ flatMap (recordNumbers r) xs
+
+module _ (r : Reader) (fits : r .limit ≤ top) where
+  up-is : (k : ℕ) → k < r .limit → up k ≡ suc k
+  up-is k h = rw (lt-ltb k top (omega arith)) (add-one k)
+
+  told-none : (k a : ℕ) → Told r k a [] []
+  unfolding feedAll emitted atEnd answerOf upshot flatMap
+  told-none k a = record { answer = refl; numbers = λ n e. fresh-emits-lf (start r k a) refl }
+
+  refused : (k a : ℕ) (bs : List ℕ) (xs : List (List ℕ)) → answerOf (atEnd (feedAll (start r k a) bs)) ≡ Refused (R.Field k) → upshot r k xs ≡ Refused (R.Field k) → Told r k a bs xs
+  refused k a bs xs e f = record { answer = e ∙ sym f; numbers = λ n g. (let z : _≡_ {A = ℕ} 0 1 = cc in absurd (omega arith)) }
+
+  over : (k a : ℕ) (bs x : List ℕ) (xs : List (List ℕ)) → ltb k (r .limit) ≡ false → (bs ≡ [] → ⊥) → Told r k a bs (x ∷ xs)
+  unfolding upshot
+  over k a bs x xs e n = refused k a bs (x ∷ xs) (rw (over-all r bs k a (ltb-false k (r .limit) e) n) (dead-answer r k (r .more) a)) (rw e)
+
+  -- record k does not pass
+  failing : (k a : ℕ) (bs x : List ℕ) (xs : List (List ℕ)) → answerOf (atEnd (feedAll (start r k a) bs)) ≡ Refused (R.Field k)
+      → restPasses (r .most) (r .below) Fresh (r .more) (pieces 44 x) ≡ false → ltb k (r .limit) ≡ true → Told r k a bs (x ∷ xs)
+  unfolding upshot
+  failing k a bs x xs e h g = refused k a bs (x ∷ xs) e (rw (g, h))
+
+  last-passes : (k a b : ℕ) (q : List ℕ) → noLf (b ∷ q) ≡ true → ltb k (r .limit) ≡ true → restPasses (r .most) (r .below) Fresh (r .more) (pieces 44 (b ∷ q)) ≡ true
+      → Passed (start r k a) (closed false (feedAll (start r k a) (b ∷ q))) (emitted (start r k a) (b ∷ q) ++ emits (feedAll (start r k a) (b ∷ q)) 10) (recordNumbers r (b ∷ q))
+      → Told r k a (b ∷ q) ((b ∷ q) ∷ [])
+  unfolding upshot answerOf flatMap
+  last-passes k a b q h e f o = record {
+    answer = rw (end-line b q (start r k a) h, e, f) (ap answerOf (o .state) ∙ rw (up-is k (ltb-true k (r .limit) e)));
+    numbers = λ n z. o .numbers ∙ sym (append-nil (recordNumbers r (b ∷ q)));
+  }
+
+  -- the last record, which the end of the file ends
+  told-last : (k a b : ℕ) (q : List ℕ) → noLf (b ∷ q) ≡ true → Told r k a (b ∷ q) ((b ∷ q) ∷ [])
+  unfolding trimmed answerOf recordNumbers
+  told-last k a b q h = elim (which (ltb k (r .limit))) [
+    | inr e ↦ over k a (b ∷ q) (b ∷ q) [] e (λ z. let y : suc (length q) ≡ 0 = ap length z in omega arith)
+    | inl e ↦ (let o = line (start r k a) (ltb-true k (r .limit) e) false (b ∷ q) h Fresh (r .more) a refl in
+        elim (which (restPasses (r .most) (r .below) Fresh (r .more) (pieces 44 (b ∷ q)))) [
+          | inr f ↦ failing k a (b ∷ q) (b ∷ q) [] (rw (end-line b q (start r k a) h) (ap answerOf (rw f at o))) f e
+          | inl f ↦ last-passes k a b q h e f (rw f at o)
+        ])
+  ]
+
+  some-bytes : (p rest : List ℕ) → p ++ (10 ∷ rest) ≡ [] → ⊥
+  some-bytes [] rest e = (let y : suc (length rest) ≡ 0 = ap length e in omega arith)
+  some-bytes (b ∷ p) rest e = (let y : suc (length (p ++ (10 ∷ rest))) ≡ 0 = ap length e in omega arith)
+
+  -- a record that LF ends, then the others
+  feed-line : (s : Reader) (p rest : List ℕ) → feedAll s (p ++ (10 ∷ rest)) ≡ feedAll (feedByte (feedAll s p) 10) rest
+  unfolding feedAll
+  feed-line s p rest = feed-append s p (10 ∷ rest)
+
+  emitted-line : (s : Reader) (p rest w : List ℕ)
+      → emitted s (p ++ (10 ∷ rest)) ++ w ≡ (emitted s p ++ emits (feedAll s p) 10) ++ (emitted (feedByte (feedAll s p) 10) rest ++ w)
+  unfolding emitted
+  emitted-line s p rest w = rw (emitted-append s p (10 ∷ rest)) (simp append-assoc)
+
+  line-passes : (k a : ℕ) (p rest : List ℕ) (xs : List (List ℕ)) (s : Reader) → ltb k (r .limit) ≡ true → restPasses (r .most) (r .below) Fresh (r .more) (pieces 44 (withoutCr p)) ≡ true
+      → s ≡ feedByte (feedAll (start r k a) p) 10
+      → Passed (start r k a) s (emitted (start r k a) p ++ emits (feedAll (start r k a) p) 10) (recordNumbers r (withoutCr p))
+      → ((n : ℕ) → Told r (suc k) n rest xs) → Told r k a (p ++ (10 ∷ rest)) (withoutCr p ∷ xs)
+  unfolding upshot flatMap
+  line-passes k a p rest xs s e f g o ih =
+      let m : feedByte (feedAll (start r k a) p) 10 ≡ start r (suc k) (s .at) = sym g ∙ (o .state ∙ rw (up-is k (ltb-true k (r .limit) e))) in
+      let t = ih (s .at) in
+      record {
+        answer = rw (feed-line (start r k a) p rest, m, e, f) (t .answer);
+        numbers = λ n z. rw (feed-line (start r k a) p rest, emitted-line (start r k a) p rest, o .numbers, m) (ap (λ (l : List ℕ). recordNumbers r (withoutCr p) ++ l) (t .numbers n (rw (e, f) at z)));
+      }
+
+  line-fails : (k a : ℕ) (p rest : List ℕ) (s : Reader) → s ≡ feedByte (feedAll (start r k a) p) 10 → Failed (start r k a) s
+      → answerOf (atEnd (feedAll (start r k a) (p ++ (10 ∷ rest)))) ≡ Refused (R.Field k)
+  line-fails k a p rest s g f =
+      let m : feedByte (feedAll (start r k a) p) 10 ≡ moved r Bad k (s .left) (s .at) = sym g ∙ f in
+      rw (feed-line (start r k a) p rest, m, dead-all r rest k (s .left) (s .at)) (dead-answer r k (s .left) (s .at))
+
+  told-more : (k a : ℕ) (p rest : List ℕ) (xs : List (List ℕ)) → noLf p ≡ true → ((n : ℕ) → Told r (suc k) n rest xs) → Told r k a (p ++ (10 ∷ rest)) (withoutCr p ∷ xs)
+  unfolding trimmed closed recordNumbers
+  told-more k a p rest xs h ih = elim (which (ltb k (r .limit))) [
+    | inr e ↦ over k a (p ++ (10 ∷ rest)) (withoutCr p) xs e (some-bytes p rest)
+    | inl e ↦ (let o = line (start r k a) (ltb-true k (r .limit) e) true p h Fresh (r .more) a refl in
+        elim (which (restPasses (r .most) (r .below) Fresh (r .more) (pieces 44 (withoutCr p)))) [
+          | inr f ↦ failing k a (p ++ (10 ∷ rest)) (withoutCr p) xs (line-fails k a p rest (feedByte (feedAll (start r k a) p) 10) refl (rw f at o)) f e
+          | inl f ↦ line-passes k a p rest xs (feedByte (feedAll (start r k a) p) 10) e f refl (rw f at o) ih
+        ])
+  ]
+
+  pub told-file : (ps : List (List ℕ)) → all noLf ps ≡ true → (k a : ℕ) → Told r k a (joined ps) (ended ps)
+  unfolding joined ended all
+  told-file [] h k a = told-none k a
+  told-file ([] ∷ []) h k a = told-none k a
+  told-file ((b ∷ q) ∷ []) h k a = told-last k a b q (and-l (noLf (b ∷ q)) true h)
+  told-file (p ∷ q ∷ ps) h k a = told-more k a p (joined (q ∷ ps)) (ended (q ∷ ps)) (and-l (noLf p) (all noLf (q ∷ ps)) h) (λ n. told-file (q ∷ ps) (and-r (noLf p) (all noLf (q ∷ ps)) h) (suc k) n)

@@ -1,0 +1,107 @@
+-- What a reader of records does with a byte, with many, and with the end of the file. That this is what document 01 says of the whole file is in Reading.antt.
+use mathlib.Core.Path.{_≡_}
+use Prim.Native.Nat.{ℕ, _+_, _-_}
+use mathlib.Core.Bool.{Bool, true, false, _&&_, _||_, cond}
+use mathlib.Core.List.{List, [], _∷_, _++_}
+use lib.Dec.{leb, ltb, eqb}
+use lib.Seq.{sets}
+use Rattle.meaning.specs.declared.Refusal.the-variants as R
+use Rattle.field.specs.declared.Phase.{Phase}
+use Rattle.field.specs.declared.Phase.the-variants.{Fresh, Empty, Return, Bad}
+use Rattle.field.specs.declared.Decimal.{Decimal}
+use Rattle.field.specs.declared.Decimal.the-variants.{Is, IsNot}
+use Rattle.field.specs.Field.{top, phaseAfter, decimalOf, returned, untouched, failed}
+use Rattle.records.specs.declared.Answer.{Answer}
+use Rattle.records.specs.declared.Answer.the-variants.{Rows, Refused}
+use Rattle.records.specs.declared.Reader.{Reader}
+
+-- counts stop at the largest
+abbrev pub up : ℕ → ℕ
+up n = cond (ltb n top) (n + 1) n
+
+abbrev pub fresh : ℕ → ℕ → ℕ → ℕ → ℕ → Reader
+fresh most below more least limit =
+    record { most = most; below = below; more = more; least = least; limit = limit; record_no = 0; left = more; at = 0; phase = Fresh }
+
+abbrev pub moved : Reader → Phase → ℕ → ℕ → ℕ → Reader
+moved r p k left at =
+    record { most = r .most; below = r .below; more = r .more; least = r .least; limit = r .limit; record_no = k; left = left; at = at; phase = p }
+
+-- the record is one that does not pass: nothing changes any more
+abbrev pub bad : Reader → Reader
+bad r = moved r Bad (r .record_no) (r .left) (r .at)
+
+-- ---- a byte
+
+-- comma, LF and CR
+abbrev pub ends : ℕ → Bool
+ends b = eqb b 44 || (eqb b 10 || eqb b 13)
+
+-- a comma with fields to come, the end of the record with none
+abbrev pub fits : ℕ → ℕ → Bool
+fits left b = cond (eqb b 44) (ltb 0 left) (eqb left 0)
+
+-- the field that b ends is stored
+unfoldable pub passed : Reader → ℕ → ℕ → Reader
+passed r b at = cond (eqb b 44) (moved r Empty (r .record_no) (r .left - 1) at)
+    (cond (eqb b 13) (moved r Return (r .record_no) (r .left) at) (moved r Fresh (up (r .record_no)) (r .more) at))
+
+unfoldable pub taken : Decimal → Reader → ℕ → Reader
+taken (Is v) r b = passed r b (up (r .at))
+taken IsNot r b = bad r
+
+-- LF after CR ends the record, whose last field CR has ended
+unfoldable pub fieldEnd : Reader → ℕ → Reader
+fieldEnd r b = cond (eqb b 10 && returned (r .phase)) (passed r b (r .at)) (cond (fits (r .left) b) (taken (decimalOf (r .phase)) r b) (bad r))
+
+unfoldable pub feedByte : Reader → ℕ → Reader
+feedByte r b = cond (leb (r .limit) (r .record_no)) (bad r)
+    (cond (ends b) (fieldEnd r b) (moved r (phaseAfter (r .most) (r .below) (r .phase) b) (r .record_no) (r .left) (r .at)))
+
+unfoldable pub shown : Decimal → List ℕ
+shown (Is v) = v ∷ []
+shown IsNot = []
+
+unfoldable pub fieldEmits : Reader → ℕ → List ℕ
+fieldEmits r b = cond (fits (r .left) b) (shown (decimalOf (r .phase))) []
+
+-- the number that b makes the reader store
+unfoldable pub emits : Reader → ℕ → List ℕ
+emits r b = cond (leb (r .limit) (r .record_no)) [] (cond (ends b) (fieldEmits r b) [])
+
+-- ---- many bytes
+
+unfoldable pub feedAll : Reader → List ℕ → Reader
+feedAll r [] = r
+feedAll r (b ∷ bs) = feedAll (feedByte r b) bs
+
+unfoldable pub emitted : Reader → List ℕ → List ℕ
+emitted r [] = []
+emitted r (b ∷ bs) = emits r b ++ emitted (feedByte r b) bs
+
+-- ---- the end of the file
+
+-- it ends a record that has begun as LF does, but a CR before it is no end
+unfoldable pub atEnd : Reader → Reader
+atEnd r = cond (untouched (r .phase)) r (cond (returned (r .phase)) (bad r) (feedByte r 10))
+
+unfoldable pub answerOf : Reader → Answer
+answerOf r = cond (failed (r .phase) || ltb (r .record_no) (r .least)) (Refused (R.Field (r .record_no))) (Rows (r .record_no))
+
+-- ---- contracts
+
+pub record FieldEnded (r : Reader) (b : ℕ) (out : List ℕ) (s : Reader) (left : List ℕ) : Type 0 where
+  pub state : s ≡ fieldEnd r b
+  pub stored : left ≡ sets out (r .at) (fieldEmits r b)
+
+pub record FedByte (r : Reader) (b : ℕ) (out : List ℕ) (s : Reader) (left : List ℕ) : Type 0 where
+  pub state : s ≡ feedByte r b
+  pub stored : left ≡ sets out (r .at) (emits r b)
+
+pub record Fed (r : Reader) (bytes out : List ℕ) (s : Reader) (left : List ℕ) : Type 0 where
+  pub state : s ≡ feedAll r bytes
+  pub stored : left ≡ sets out (r .at) (emitted r bytes)
+
+pub record Finished (r : Reader) (out : List ℕ) (a : Answer) (left : List ℕ) : Type 0 where
+  pub answer : a ≡ answerOf (atEnd r)
+  pub stored : left ≡ sets out (r .at) (emits r 10)

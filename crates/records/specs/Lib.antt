@@ -1,0 +1,3 @@
+pub mod Automaton
+pub mod StepLaws
+pub mod Pieces

@@ -1,0 +1,106 @@
+-- Laws of Automaton.antt, case by case: what the code's branches and the theorems use.
+use mathlib.Core.Path.{_≡_, refl, sym, ap, _∙_}
+use mathlib.Core.Logic.{_⊎_, inl, inr}
+use Prim.Native.Nat.{ℕ, suc, _+_, _*_, _-_, _≤_, _<_}
+use native.Mathlib.Numerals.{add-one}
+use native.Mathlib.Omega.{arith}
+use mathlib.Core.Bool.{Bool, true, false, _&&_, _||_, cond, true≢false, false≢true}
+use mathlib.Core.List.{List, [], _∷_, _++_}
+use lib.ListN.{length, set, getD, drop}
+use lib.Dec.{leb, ltb, eqb}
+use lib.Seq.{sets, set-out, drop-cons, length-sets}
+use borrow.Author.Tests.{lt-ltb, le-ltb, le-leb, lt-leb, ltb-false}
+use Rattle.meaning.specs.RowsLaws.{which, and-r}
+use Rattle.field.specs.declared.Phase.{Phase}
+use Rattle.field.specs.declared.Decimal.{Decimal}
+use Rattle.field.specs.declared.Decimal.the-variants.{Is, IsNot}
+use Rattle.field.specs.Field.{top, decimalOf, returned, untouched}
+use Rattle.field.specs.FieldLaws.{return-none, fresh-none}
+use Rattle.records.specs.declared.Reader.{Reader}
+use Rattle.records.specs.Automaton.{up, moved, bad, ends, fits, passed, taken, fieldEnd, feedByte, shown, fieldEmits, emits, feedAll, emitted, FedByte}
+
+-- ---- the stores of one byte and of those after it
+
+sets-past : (l : List ℕ) (i : ℕ) (w : List ℕ) → length l ≤ i → sets l i w ≡ l
+sets-past l i [] h = refl
+sets-past l i (x ∷ w) h = rw (set-out l i x h) (sets-past l (suc i) w (omega arith))
+
+pub sets-up : (l : List ℕ) (i v : ℕ) (w : List ℕ) → length l ≤ top → sets (set l i v) (up i) w ≡ sets l i (v ∷ w)
+sets-up l i v w h = elim (which (ltb i top)) [
+  | inl e ↦ rw (e, add-one i)
+  | inr e ↦ (let h₂ : length l ≤ i = omega (arith, ltb-false i top e) in rw (e, set-out l i v h₂) (sets-past l i w h₂ ∙ sym (sets-past l (suc i) w (omega arith))))
+]
+
+passed-at : (r : Reader) (b at : ℕ) → (passed r b at) .at ≡ at
+unfolding passed
+passed-at r b at = elim (which (eqb b 44)) [
+  | inl e ↦ rw e
+  | inr e ↦ elim (which (eqb b 13)) [ inl f ↦ rw (e, f) | inr f ↦ rw (e, f) ]
+]
+
+-- nothing is stored, or one number, and the next place is after it
+abbrev Next : Reader → List ℕ → Reader → Type 0
+Next r w s = ((w ≡ []) × (s .at ≡ r .at)) ⊎ ((v : ℕ) × (w ≡ v ∷ []) × (s .at ≡ up (r .at)))
+
+taken-next : (d : Decimal) (r : Reader) (b : ℕ) → Next r (shown d) (taken d r b)
+unfolding shown taken
+taken-next (Is v) r b = inr (v, refl, passed-at r b (up (r .at)))
+taken-next IsNot r b = inl (refl, refl)
+
+pub return-emits : (r : Reader) (b : ℕ) → returned (r .phase) ≡ true → fieldEmits r b ≡ []
+unfolding fieldEmits shown
+return-emits r b e = elim (which (fits (r .left) b)) [ inl f ↦ rw (f, return-none (r .phase) e) | inr f ↦ rw f ]
+
+end-fits : (r : Reader) (b : ℕ) → Next r (fieldEmits r b) (cond (fits (r .left) b) (taken (decimalOf (r .phase)) r b) (bad r))
+unfolding fieldEmits
+end-fits r b = elim (which (fits (r .left) b)) [ inl f ↦ rw f (taken-next (decimalOf (r .phase)) r b) | inr f ↦ rw f (inl (refl, refl)) ]
+
+fieldEnd-next : (r : Reader) (b : ℕ) → Next r (fieldEmits r b) (fieldEnd r b)
+unfolding fieldEnd
+fieldEnd-next r b = elim (which (eqb b 10 && returned (r .phase))) [
+  | inl e ↦ rw e (inl (return-emits r b (and-r (eqb b 10) _ e), passed-at r b (r .at)))
+  | inr e ↦ rw e (end-fits r b)
+]
+
+byte-next : (r : Reader) (b : ℕ) → Next r (emits r b) (feedByte r b)
+unfolding emits feedByte
+byte-next r b = elim (which (leb (r .limit) (r .record_no))) [
+  | inl e ↦ rw e (inl (refl, refl))
+  | inr e ↦ elim (which (ends b)) [ inl f ↦ rw (e, f) (fieldEnd-next r b) | inr f ↦ rw (e, f) (inl (refl, refl)) ]
+]
+
+-- the stores of a byte, then those of the bytes after it
+pub sets-next : (l : List ℕ) (r : Reader) (b : ℕ) (w : List ℕ) → length l ≤ top
+    → sets (sets l (r .at) (emits r b)) ((feedByte r b) .at) w ≡ sets l (r .at) (emits r b ++ w)
+sets-next l r b w h = elim (byte-next r b) [
+  | inl e ↦ rw (e .0, e .1)
+  | inr e ↦ rw (e .1, e .2) (sets-up l (r .at) (e .0) w h)
+]
+
+-- ---- the end of the file stores nothing where no field is open
+
+pub return-emits-lf : (r : Reader) → returned (r .phase) ≡ true → emits r 10 ≡ []
+unfolding emits
+return-emits-lf r e = elim (which (leb (r .limit) (r .record_no))) [ inl f ↦ rw f | inr f ↦ rw (f, return-emits r 10 e) ]
+
+pub fresh-emits-lf : (r : Reader) → untouched (r .phase) ≡ true → emits r 10 ≡ []
+unfolding emits fieldEmits shown
+fresh-emits-lf r e = elim (which (leb (r .limit) (r .record_no))) [
+  | inl f ↦ rw f
+  | inr f ↦ elim (which (fits (r .left) 10)) [ inl g ↦ rw (f, g, fresh-none (r .phase) e) | inr g ↦ rw (f, g) ]
+]
+
+-- ---- a turn of the loop
+
+pub record Turn (s t : Reader) (bytes out left : List ℕ) (i : ℕ) : Type 0 where
+  pub state : feedAll t (drop (i + 1) bytes) ≡ feedAll s (drop i bytes)
+  pub stored : sets left (t .at) (emitted t (drop (i + 1) bytes)) ≡ sets out (s .at) (emitted s (drop i bytes))
+  pub lengths : length left ≡ length out
+
+pub turn : (s t : Reader) (bytes out left : List ℕ) (i : ℕ) → i < length bytes → length out ≤ top → FedByte s (getD bytes i 0) out t left → Turn s t bytes out left i
+unfolding feedAll emitted
+turn s t bytes out left i h g f = record {
+  state = rw (add-one i, drop-cons bytes i 0 h, f .state);
+  stored = rw (add-one i, drop-cons bytes i 0 h, f .state, f .stored) (sets-next out s (getD bytes i 0) (emitted (feedByte s (getD bytes i 0)) (drop (suc i) bytes)) g);
+  lengths = ap length (f .stored) ∙ length-sets out (s .at) (emits s (getD bytes i 0));
+}

@@ -1,0 +1,269 @@
+// A reader of tables from RFC 4180 records, byte after byte: a file of any length goes through a buffer of fixed size.
+// FIELD (16): "record of wrong field count, or a field that isn't a decimal of its type (no +, -0 or leading zero)".
+ghost use mathlib.Core.Path.{_≡_};
+ghost use mathlib.Core.Bool.{true, false, _&&_};
+ghost use Prim.Native.Nat.{_-_};
+ghost use lib.ListN.{set};
+ghost use lib.Dec.{eqb};
+ghost use Rattle.records.specs.Automaton.{up, fresh, moved, bad};
+ghost use Rattle.field.specs.Field.{returned};
+ghost use Rattle.records.specs.Automaton.{ends, fits, passed, answerOf, FieldEnded, FedByte, Fed, Finished};
+
+const COMMA: u8 = 44;
+
+const LF: u8 = 10;
+
+const CR: u8 = 13;
+
+// How many records the file has, or why it is refused.
+pub enum Answer {
+    Rows(usize),
+    Refused(meaning::Refusal),
+}
+
+// The whole state of the reader of one file.
+pub struct Reader {
+    // the largest number of the fields' type, and the size of its least
+    pub most: u64,
+    pub below: u64,
+    // the fields of a record after its first
+    pub more: usize,
+    // how many records the file must have, and may have
+    pub least: usize,
+    pub limit: usize,
+    // the record that is being read, the fields of it to come, and how many numbers are stored
+    pub record_no: usize,
+    pub left: usize,
+    pub at: usize,
+    pub phase: field::Phase,
+}
+
+impl Reader {
+    fn new(most: u64, below: u64, more: usize, least: usize, limit: usize) -> Self
+        ensures { λ r. ⌜ r ≡ fresh most below more least limit ⌝ }
+    {
+        Reader {
+            most,
+            below,
+            more,
+            least,
+            limit,
+            record_no: 0,
+            left: more,
+            at: 0,
+            phase: field::Phase::Fresh,
+        }
+    }
+
+    // "frame.csv has one record: none is FIELD at 0, a second FIELD at 1."
+    pub fn frame() -> Self
+        ensures { λ r. ⌜ r ≡ fresh 4294967295 0 2 1 1 ⌝ }
+    {
+        Reader::new(4294967295, 0, 2, 1, 1)
+    }
+
+    pub fn states() -> Self
+        ensures { λ r. ⌜ r ≡ fresh 65535 0 1 0 18446744073709551615 ⌝ }
+    {
+        Reader::new(65535, 0, 1, 0, 18446744073709551615)
+    }
+
+    pub fn moves() -> Self
+        ensures { λ r. ⌜ r ≡ fresh 32767 32768 10 0 18446744073709551615 ⌝ }
+    {
+        Reader::new(32767, 32768, 10, 0, 18446744073709551615)
+    }
+
+    pub fn presets() -> Self
+        ensures { λ r. ⌜ r ≡ fresh 4294967295 0 0 0 18446744073709551615 ⌝ }
+    {
+        Reader::new(4294967295, 0, 0, 0, 18446744073709551615)
+    }
+
+    // timer pairs and output pairs
+    pub fn pairs() -> Self
+        ensures { λ r. ⌜ r ≡ fresh 65535 0 1 0 18446744073709551615 ⌝ }
+    {
+        Reader::new(65535, 0, 1, 0, 18446744073709551615)
+    }
+
+    // "scans.csv has at most 4,096: more is FIELD at 4,096."
+    pub fn scans() -> Self
+        ensures { λ r. ⌜ r ≡ fresh 18446744073709551615 0 0 0 4096 ⌝ }
+    {
+        Reader::new(18446744073709551615, 0, 0, 0, 4096)
+    }
+}
+
+// An enum in a field is not stored to: the reader anew.
+fn with(r: Reader, phase: field::Phase, record_no: usize, left: usize, at: usize) -> Reader
+    ensures { λ s. ⌜ s ≡ moved r phase record_no left at ⌝ }
+{
+    Reader {
+        most: r.most,
+        below: r.below,
+        more: r.more,
+        least: r.least,
+        limit: r.limit,
+        record_no,
+        left,
+        at,
+        phase,
+    }
+}
+
+fn fail(r: Reader) -> Reader
+    ensures { λ s. ⌜ s ≡ bad r ⌝ }
+{
+    with(r, field::Phase::Bad, r.record_no, r.left, r.at)
+}
+
+// Counts stop at the largest.
+fn one_more(n: usize) -> usize
+    ensures { λ r. ⌜ r ≡ up n ⌝ }
+{
+    if n < 18446744073709551615 {
+        return n + 1;
+    }
+    n
+}
+
+fn one_less(n: usize) -> usize
+    ensures { λ r. ⌜ r ≡ n - 1 ⌝ }
+{
+    if n == 0 {
+        return 0;
+    }
+    n - 1
+}
+
+fn is_end(b: u8) -> bool
+    ensures { λ t. ⌜ t ≡ ends b ⌝ }
+{
+    if b == COMMA {
+        return true;
+    }
+    if b == LF {
+        return true;
+    }
+    b == CR
+}
+
+// "record of wrong field count": a comma has fields after it, the record's end has none.
+fn in_place(left: usize, b: u8) -> bool
+    ensures { λ t. ⌜ t ≡ fits left b ⌝ }
+{
+    if b == COMMA {
+        return 0 < left;
+    }
+    left == 0
+}
+
+// The state after a field that passes.
+fn pass(r: Reader, b: u8, at: usize) -> Reader
+    ensures { λ s. ⌜ s ≡ passed r b at ⌝ }
+{
+    if b == COMMA {
+        return with(r, field::Phase::Empty, r.record_no, one_less(r.left), at);
+    }
+    if b == CR {
+        return with(r, field::Phase::Return, r.record_no, r.left, at);
+    }
+    with(r, field::Phase::Fresh, one_more(r.record_no), r.more, at)
+}
+
+fn store(out: &mut [u64], at: usize, v: u64)
+    ensures { λ _. ⌜ now (out .exit) ≡ set (now (out .entry)) at v ⌝ }
+{
+    if at < out.len() {
+        out[at] = v;
+    }
+}
+
+// LF after CR.
+fn ends_return(b: u8, phase: field::Phase) -> bool
+    ensures { λ t. ⌜ t ≡ (eqb b 10 && returned phase) ⌝ }
+{
+    if b == LF {
+        return field::is_return(phase);
+    }
+    false
+}
+
+// A comma, LF or CR.
+fn end_field(r: Reader, b: u8, out: &mut [u64]) -> Reader
+    ensures { λ s. ⌜ FieldEnded r b (now (out .entry)) s (now (out .exit)) ⌝ }
+{
+    let phase = r.phase;
+    if ends_return(b, phase) {
+        return pass(r, b, r.at);
+    }
+    if in_place(r.left, b) {
+        let d = field::decimal_of(phase);
+        match d {
+            field::Decimal::Is(v) => {
+                store(out, r.at, v);
+                return pass(r, b, one_more(r.at));
+            }
+            field::Decimal::IsNot => {
+                return fail(r);
+            }
+        }
+    }
+    fail(r)
+}
+
+// The next byte of the file.
+fn feed_byte(r: Reader, b: u8, out: &mut [u64]) -> Reader
+    ensures { λ s. ⌜ FedByte r b (now (out .entry)) s (now (out .exit)) ⌝ }
+{
+    if r.limit <= r.record_no {
+        return fail(r);
+    }
+    if is_end(b) {
+        return end_field(r, b, out);
+    }
+    let phase = r.phase;
+    let next = field::within(r.most, r.below, phase, b);
+    with(r, next, r.record_no, r.left, r.at)
+}
+
+// The next piece of the file. Numbers go to out in order as far as it has room; the rest of it is kept.
+pub fn feed(r: Reader, bytes: &[u8], out: &mut [u64]) -> Reader
+    ensures { λ s. ⌜ Fed r (now (bytes .entry)) (now (out .entry)) s (now (out .exit)) ⌝ }
+{
+    let mut s = r;
+    let mut i = 0;
+    while i < bytes.len() {
+        s = feed_byte(s, bytes[i], out);
+        i += 1;
+    }
+    s
+}
+
+fn told(r: Reader) -> Answer
+    ensures { λ a. ⌜ a ≡ answerOf r ⌝ }
+{
+    let phase = r.phase;
+    if field::is_bad(phase) {
+        return Answer::Refused(meaning::Refusal::Field(r.record_no));
+    }
+    if r.record_no < r.least {
+        return Answer::Refused(meaning::Refusal::Field(r.record_no));
+    }
+    Answer::Rows(r.record_no)
+}
+
+// The end of the file ends the last record; "nothing after the last LF" is none, and a CR there is no end.
+pub fn finish(r: Reader, out: &mut [u64]) -> Answer
+    ensures { λ a. ⌜ Finished r (now (out .entry)) a (now (out .exit)) ⌝ }
+{
+    let phase = r.phase;
+    if field::is_fresh(phase) {
+        return told(r);
+    }
+    if field::is_return(phase) {
+        return told(fail(r));
+    }
+    told(feed_byte(r, LF, out))
+}
