@@ -1,9 +1,9 @@
 // What stands where in a chart's tables, for any tables at all: past the end of a table everything is 0.
 use meaning::Kind;
 ghost use mathlib.Core.Path.{_≡_};
-ghost use Prim.Native.Nat.{ℕ, _+_, _*_, _≤_};
+ghost use Prim.Native.Nat.{_+_, _*_};
 ghost use lib.ListN.{getD};
-ghost use lib.IntN.{pos, natAbs};
+ghost use lib.IntN.{natAbs};
 ghost use Rattle.meaning.specs.Tables.{Tables, superState, initial, pairNumber, pairState, cell, source, target, mark, literal};
 ghost use Rattle.meaning.specs.Hierarchy.{depth, atOrAbove, subState, subStates, leaf, paired};
 ghost use Rattle.meaning.specs.Literals.{kindOf, wanted};

@@ -7,14 +7,11 @@ use borrow.Author.Count.{below-none, below-more}
 use native.Mathlib.Numerals.{add-one}
 use native.Mathlib.Decide.{decLe}
 use native.Mathlib.Omega.{arith}
-use mathlib.Core.Bool.{true, false}
+use mathlib.Core.Bool.{false}
 use mathlib.Core.Path.{_≡_, refl, ap, sym, _∙_}
-use Prim.Native.Nat.{ℕ, zero, _≤_, _<_, _-_, _/_, _+_, suc}
+use Prim.Native.Nat.{ℕ, zero, _≤_, _<_, _-_, _+_, suc}
 use Rattle.tables.proofs.at_or_above.Statement.{statement}
 use Rattle.tables.proofs.at_or_above.Tie as tie
-use Rattle.tables.proofs.at_or_above.Reads as reads
-use Rattle.tables.proofs.at_or_above.Lts as lts
-use Rattle.tables.proofs.super_state.Reads as super-state-reads
 
 -- from a state that is its own super-state the way leads nowhere else
 stays : (c : Tables) (s k j : ℕ) → superState c (up c k s) ≡ up c k s → up c (j + k) s ≡ up c k s

@@ -1,13 +1,11 @@
 use Rattle.meaning.specs.Tables.{cell}
-use mathlib.Core.Path.{sym, _∙_}
+use mathlib.Core.Path.{sym}
 use native.Mathlib.Omega.{arith}
 use lib.IntN.{pos}
 use lib.ListN.{List·getD-eq-default}
 use borrow.Author.Needs.{needs}
 use Rattle.tables.proofs.cell.Statement.{statement}
 use Rattle.tables.proofs.cell.Tie as tie
-use Rattle.tables.proofs.cell.Reads as reads
-use Rattle.tables.proofs.cell.Lts as lts
 
 returns : tie.Need-returns
 unfolding cell

@@ -2,13 +2,10 @@ use Rattle.meaning.specs.Hierarchy.{levels, depth}
 use Rattle.meaning.specs.Tables.{Tables, superState}
 use native.Mathlib.Nat.{zero-add}
 use native.Mathlib.Omega.{arith}
-use mathlib.Core.Path.{_≡_, refl, ap, sym, _∙_}
-use Prim.Native.Nat.{ℕ, zero, _≤_, _-_, _/_, _+_, suc}
+use mathlib.Core.Path.{_≡_, refl, ap, sym}
+use Prim.Native.Nat.{ℕ, zero, _≤_, _-_, _+_, suc}
 use Rattle.tables.proofs.depth.Statement.{statement}
 use Rattle.tables.proofs.depth.Tie as tie
-use Rattle.tables.proofs.depth.Reads as reads
-use Rattle.tables.proofs.depth.Lts as lts
-use Rattle.tables.proofs.super_state.Reads as super-state-reads
 
 -- at the root no level is left
 at-root : (c : Tables) (k : ℕ) → levels c k 0 ≡ 0

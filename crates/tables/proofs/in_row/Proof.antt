@@ -4,9 +4,6 @@ use lib.ListN.{List·getD-eq-default}
 use borrow.Author.Needs.{needs}
 use Rattle.tables.proofs.in_row.Statement.{statement}
 use Rattle.tables.proofs.in_row.Tie as tie
-use Rattle.tables.proofs.in_row.Reads as reads
-use Rattle.tables.proofs.in_row.Lts as lts
-use Rattle.tables.proofs.wide.Reads as wide-reads
 
 returns : tie.Need-returns
 returns c =

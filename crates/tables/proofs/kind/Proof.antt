@@ -5,10 +5,6 @@ use mathlib.Core.Path.{ap, _∙_}
 use borrow.Author.Needs.{needs}
 use Rattle.tables.proofs.kind.Statement.{statement}
 use Rattle.tables.proofs.kind.Tie as tie
-use Rattle.tables.proofs.kind.Reads as reads
-use Rattle.tables.proofs.kind.Lts as lts
-use Rattle.tables.proofs.kind_of.Reads as kind-of-reads
-use Rattle.tables.proofs.size.Reads as size-reads
 
 size-requires : tie.Need-size-requires
 size-requires c κs = search needs

@@ -5,8 +5,6 @@ use borrow.Author.Tests.{le-leb, lt-leb, ne-eqb}
 use borrow.Author.Needs.{needs}
 use Rattle.tables.proofs.kind_of.Statement.{statement}
 use Rattle.tables.proofs.kind_of.Tie as tie
-use Rattle.tables.proofs.kind_of.Reads as reads
-use Rattle.tables.proofs.kind_of.Lts as lts
 
 sub-t4 : tie.Need-sub-t4
 sub-t4 c = search needs

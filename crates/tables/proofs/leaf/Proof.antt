@@ -4,9 +4,6 @@ use mathlib.Core.Path.{ap}
 use borrow.Author.Needs.{needs}
 use Rattle.tables.proofs.leaf.Statement.{statement}
 use Rattle.tables.proofs.leaf.Tie as tie
-use Rattle.tables.proofs.leaf.Reads as reads
-use Rattle.tables.proofs.leaf.Lts as lts
-use Rattle.tables.proofs.sub_states.Reads as sub-states-reads
 
 sub-states-requires : tie.Need-sub-states-requires
 sub-states-requires c κs = search needs

@@ -1,13 +1,10 @@
 use borrow.Author.Needs.{sfits-of}
 use mir.Facts.{toZ-ofZ}
-use mathlib.Core.Path.{ap, _∙_}
+use mathlib.Core.Path.{_∙_}
 use Rattle.meaning.specs.Tables.{literal}
 use borrow.Author.Needs.{needs}
 use Rattle.tables.proofs.literal.Statement.{statement}
 use Rattle.tables.proofs.literal.Tie as tie
-use Rattle.tables.proofs.literal.Reads as reads
-use Rattle.tables.proofs.literal.Lts as lts
-use Rattle.tables.proofs.cell.Reads as cell-reads
 
 add-cell : tie.Need-add-cell
 add-cell c = search needs

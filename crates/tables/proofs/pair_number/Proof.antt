@@ -3,9 +3,6 @@ use Rattle.meaning.specs.Tables.{pairNumber}
 use borrow.Author.Needs.{needs}
 use Rattle.tables.proofs.pair_number.Statement.{statement}
 use Rattle.tables.proofs.pair_number.Tie as tie
-use Rattle.tables.proofs.pair_number.Reads as reads
-use Rattle.tables.proofs.pair_number.Lts as lts
-use Rattle.tables.proofs.in_row.Reads as in-row-reads
 
 in-row-requires : tie.Need-in-row-requires
 in-row-requires c κs = search needs

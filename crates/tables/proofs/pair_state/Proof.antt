@@ -2,9 +2,6 @@ use Rattle.meaning.specs.Tables.{pairState}
 use borrow.Author.Needs.{needs}
 use Rattle.tables.proofs.pair_state.Statement.{statement}
 use Rattle.tables.proofs.pair_state.Tie as tie
-use Rattle.tables.proofs.pair_state.Reads as reads
-use Rattle.tables.proofs.pair_state.Lts as lts
-use Rattle.tables.proofs.in_row.Reads as in-row-reads
 
 in-row-requires : tie.Need-in-row-requires
 in-row-requires c κs = search needs

@@ -5,14 +5,11 @@ use Rattle.meaning.specs.RowsLaws.{some-intro, some-none}
 use lib.ListN.{length}
 use borrow.Author.Count.{below-none, below-more}
 use native.Mathlib.Omega.{arith}
-use mathlib.Core.Bool.{true, false}
+use mathlib.Core.Bool.{false}
 use mathlib.Core.Path.{_≡_, sym, _∙_}
-use Prim.Native.Nat.{ℕ, _≤_, _<_, _-_, _/_, _+_}
+use Prim.Native.Nat.{ℕ, _≤_, _<_, _-_, _/_}
 use Rattle.tables.proofs.paired.Statement.{statement}
 use Rattle.tables.proofs.paired.Tie as tie
-use Rattle.tables.proofs.paired.Reads as reads
-use Rattle.tables.proofs.paired.Lts as lts
-use Rattle.tables.proofs.row_paired.Reads as row-paired-reads
 
 abbrev Inv-loop : tie.InvT-loop
 Inv-loop states pairs n l i₀ i =

@@ -1,17 +1,9 @@
-use Rattle.meaning.specs.Hierarchy.{atOrAbove}
-use Rattle.meaning.specs.Tables.{pairNumber, pairState}
+use Rattle.meaning.specs.Tables.{pairNumber}
 use borrow.Author.Tests.{eq-eqb, ne-eqb}
-use lib.Dec.{eqb}
-use mathlib.Core.Bool.{_&&_}
-use mathlib.Core.Path.{_≡_, ap, sym, _∙_}
+use mathlib.Core.Path.{sym, _∙_}
 use borrow.Author.Needs.{needs}
 use Rattle.tables.proofs.row_paired.Statement.{statement}
 use Rattle.tables.proofs.row_paired.Tie as tie
-use Rattle.tables.proofs.row_paired.Reads as reads
-use Rattle.tables.proofs.row_paired.Lts as lts
-use Rattle.tables.proofs.at_or_above.Reads as at-or-above-reads
-use Rattle.tables.proofs.pair_number.Reads as pair-number-reads
-use Rattle.tables.proofs.pair_state.Reads as pair-state-reads
 
 pair-number-requires : tie.Need-pair-number-requires
 pair-number-requires c κs = search needs

@@ -1,21 +1,18 @@
 use Rattle.tables.specs.Signs.{not-neg}
 use mir.Facts.{toZ-ofZ, fits-natAbs}
-use mir.Val.{Fits, SFits, toZ, ofZ}
+use mir.Val.{SFits, toZ, ofZ}
 use mir.Syntax.{w16}
 use lib.Signed.{ltZ, nonNeg}
 use lib.IntN.{ℤ, pos, negsuc, natAbs, _-ℤ_}
 use lib.Dec.{T}
-use Prim.Native.Nat.{ℕ, suc, _<_, _≤_}
+use Prim.Native.Nat.{suc, _<_}
 use native.Mathlib.Nat.{zero-add}
 use native.Mathlib.Omega.{arith}
 use borrow.Author.Tests.{ltb-true, ltb-false}
-use mathlib.Core.Path.{_≡_, refl, subst, sym, ap, _∙_}
+use mathlib.Core.Path.{_≡_, sym, ap, _∙_}
 use mathlib.Core.Bool.{true, false}
-use borrow.Author.Needs.{needs}
 use Rattle.tables.proofs.size.Statement.{statement}
 use Rattle.tables.proofs.size.Tie as tie
-use Rattle.tables.proofs.size.Reads as reads
-use Rattle.tables.proofs.size.Lts as lts
 
 -- the least number
 low : (v : ℤ) → SFits w16 v → ltZ v (negsuc 32766) ≡ true → 32768 ≡ natAbs v

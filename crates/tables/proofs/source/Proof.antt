@@ -6,11 +6,6 @@ use mathlib.Core.Path.{ap, _∙_}
 use borrow.Author.Needs.{needs}
 use Rattle.tables.proofs.source.Statement.{statement}
 use Rattle.tables.proofs.source.Tie as tie
-use Rattle.tables.proofs.source.Reads as reads
-use Rattle.tables.proofs.source.Lts as lts
-use Rattle.tables.proofs.cell.Reads as cell-reads
-use Rattle.tables.proofs.size.Reads as size-reads
-use Rattle.tables.proofs.wide.Reads as wide-reads
 
 cell-requires : tie.Need-cell-requires
 cell-requires c κs = search needs

@@ -1,18 +1,12 @@
 use Prim.Native.Nat.{_/_}
 use lib.ListN.{length}
-use lib.Dec.{eqb, ltb}
 use borrow.Author.Tests.{le-ltb, lt-ltb}
 use native.Mathlib.Omega.{arith}
-use mathlib.Core.Bool.{_&&_, true, false}
-use mathlib.Core.Path.{_≡_, ap, sym, _∙_}
 use Rattle.meaning.specs.Hierarchy.{subState}
 use Rattle.meaning.specs.Tables.{stateCount}
 use borrow.Author.Needs.{needs}
 use Rattle.tables.proofs.sub_state.Statement.{statement}
 use Rattle.tables.proofs.sub_state.Tie as tie
-use Rattle.tables.proofs.sub_state.Reads as reads
-use Rattle.tables.proofs.sub_state.Lts as lts
-use Rattle.tables.proofs.super_state.Reads as super-state-reads
 
 returns : tie.Need-returns
 unfolding subState

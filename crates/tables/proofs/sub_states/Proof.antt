@@ -7,12 +7,9 @@ use native.Mathlib.Numerals.{add-one}
 use native.Mathlib.Omega.{arith}
 use mathlib.Core.Logic.{⊎-elim}
 use mathlib.Core.Path.{_≡_, refl, ap, sym, _∙_}
-use Prim.Native.Nat.{_≤_, _-_, _/_, _+_, suc}
+use Prim.Native.Nat.{_≤_, _-_, _/_}
 use Rattle.tables.proofs.sub_states.Statement.{statement}
 use Rattle.tables.proofs.sub_states.Tie as tie
-use Rattle.tables.proofs.sub_states.Reads as reads
-use Rattle.tables.proofs.sub_states.Lts as lts
-use Rattle.tables.proofs.sub_state.Reads as sub-state-reads
 
 abbrev Inv-loop : tie.InvT-loop
 Inv-loop states a n₀ s₀ n s =

@@ -1,15 +1,8 @@
 use native.Mathlib.Nat.{add-zero}
 use Rattle.meaning.specs.Tables.{superState}
-use native.Mathlib.Omega.{arith}
-use lib.ListN.{getD}
-use mathlib.Core.Path.{_≡_, _∙_, ap}
-use Prim.Native.Nat.{_+_, _*_}
 use borrow.Author.Needs.{needs}
 use Rattle.tables.proofs.super_state.Statement.{statement}
 use Rattle.tables.proofs.super_state.Tie as tie
-use Rattle.tables.proofs.super_state.Reads as reads
-use Rattle.tables.proofs.super_state.Lts as lts
-use Rattle.tables.proofs.in_row.Reads as in-row-reads
 
 in-row-requires : tie.Need-in-row-requires
 in-row-requires c κs = search needs

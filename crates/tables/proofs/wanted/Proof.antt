@@ -4,12 +4,10 @@ use Rattle.meaning.specs.Literals.{wanted}
 use mir.Facts.{toZ-ofZ}
 use lib.Signed.{ltZ}
 use lib.IntN.{ℤ, pos, negsuc}
-use mathlib.Core.Path.{_≡_, refl, sym, ap, _∙_}
-use mathlib.Core.Bool.{true, false, not}
+use mathlib.Core.Path.{_≡_, refl}
+use mathlib.Core.Bool.{not}
 use Rattle.tables.proofs.wanted.Statement.{statement}
 use Rattle.tables.proofs.wanted.Tie as tie
-use Rattle.tables.proofs.wanted.Reads as reads
-use Rattle.tables.proofs.wanted.Lts as lts
 
 sign : (v : ℤ) → not (ltZ v (pos 0)) ≡ wanted v
 unfolding wanted

@@ -1,0 +1,99 @@
+use Rattle.chart.specs.Verdicts.{checkOf, tableChecks, moveChecks, flipFlopCheck, isRefused, passed, halts, goes, first-goes, rest-goes, size-stops, size-goes}
+use Rattle.chart.specs.Idle.{Sound}
+use Rattle.chart.specs.declared.Rule.the-variants as L
+use Rattle.tables.specs.Given.{tablesOf}
+use Rattle.meaning.specs.Check.{sizePasses, verdictOf}
+use Rattle.meaning.specs.Tables.{Tables, stateCount}
+use Rattle.meaning.specs.RowsLaws.{and-l, and-r}
+use borrow.Author.Tests.{not-true, not-false, leb-true}
+use mathlib.Core.List.{[], _∷_, _++_}
+use mathlib.Core.Bool.{true, false}
+use mathlib.Core.Path.{_≡_, refl, sym, ap, _∙_}
+use Prim.Native.Nat.{_≤_}
+use borrow.Author.Needs.{needs}
+use Rattle.chart.proofs.check.Statement.{statement}
+use Rattle.chart.proofs.check.Tie as tie
+
+few : (c : Tables) → sizePasses c ≡ true → stateCount c ≤ 256
+unfolding sizePasses
+few c e = leb-true (stateCount c) 256 (search (and-l, and-r) depth 14)
+
+sound : (c : Tables) → sizePasses c ≡ true → isRefused (verdictOf (tableChecks c)) ≡ false → Sound c
+sound c e f = record {
+  initials = passed (checkOf c L.Initial) (first-goes (checkOf c L.Initial) (checkOf c L.Preset ∷ checkOf c L.TimerPair ∷ checkOf c L.OutputPair ∷ [])
+      (rest-goes (checkOf c L.Hierarchy) (checkOf c L.Initial ∷ checkOf c L.Preset ∷ checkOf c L.TimerPair ∷ checkOf c L.OutputPair ∷ []) f));
+  few = few c e;
+}
+
+size-passes-requires : tie.Need-size-passes-requires
+size-passes-requires c κs = search needs
+
+returns : tie.Need-returns
+returns c =
+    let a = c .before .before .before .before .before .before .args in
+    let t = tablesOf (a .chart) (a .states .now) (a .moves .now) (a .presets .now) (a .timer-pairs .now) (a .output-pairs .now) in
+    let p = c .before .size-passes in
+    size-stops t (sym (p .ensures) ∙ not-true (p .result) (c .if1 .taken))
+
+judge-tables-requires : tie.Need-judge-tables-requires
+judge-tables-requires c κs = search needs
+
+refused-requires : tie.Need-refused-requires
+refused-requires c κs = search needs
+
+returns-2 : tie.Need-returns-2
+returns-2 c =
+    let a = c .before .before .before .before .before .before .before .before .before .args in
+    let t = tablesOf (a .chart) (a .states .now) (a .moves .now) (a .presets .now) (a .timer-pairs .now) (a .output-pairs .now) in
+    let p = c .before .before .before .before .size-passes in
+    halts (tableChecks t) (moveChecks t ++ (flipFlopCheck t ∷ [])) (c .before .before .judge-tables .ensures) (c .before .refused .ensures) (c .if2 .taken)
+    ∙ size-goes t (sym (p .ensures) ∙ not-false (p .result) (c .before .before .before .if1 .left))
+
+judge-moves-requires : tie.Need-judge-moves-requires
+judge-moves-requires c κs = search needs
+
+refused-requires-2 : tie.Need-refused-requires-2
+refused-requires-2 c κs = search needs
+
+returns-3 : tie.Need-returns-3
+returns-3 c =
+    let a = c .before .before .before .before .before .before .before .before .before .before .before .before .args in
+    let t = tablesOf (a .chart) (a .states .now) (a .moves .now) (a .presets .now) (a .timer-pairs .now) (a .output-pairs .now) in
+    let p = c .before .before .before .before .before .before .before .size-passes in
+    let e = sym (p .ensures) ∙ not-false (p .result) (c .before .before .before .before .before .before .if1 .left) in
+    let f = c .before .before .before .before .before .judge-tables .ensures in
+    let s = sound t e (ap isRefused (sym f) ∙ sym (c .before .before .before .before .refused .ensures) ∙ c .before .before .before .if2 .left) in
+    halts (moveChecks t) (flipFlopCheck t ∷ []) (c .before .before .judge-moves .ensures s) (c .before .refused2 .ensures) (c .if3 .taken)
+    ∙ goes (tableChecks t) (moveChecks t ++ (flipFlopCheck t ∷ [])) f (c .before .before .before .before .refused .ensures) (c .before .before .before .if2 .left)
+    ∙ size-goes t e
+
+judge-flip-flops-requires : tie.Need-judge-flip-flops-requires
+judge-flip-flops-requires c κs = search needs
+
+returns-4 : tie.Need-returns-4
+returns-4 c =
+    let a = c .before .before .before .before .before .before .before .before .before .before .before .before .before .args in
+    let t = tablesOf (a .chart) (a .states .now) (a .moves .now) (a .presets .now) (a .timer-pairs .now) (a .output-pairs .now) in
+    let p = c .before .before .before .before .before .before .before .before .size-passes in
+    let e = sym (p .ensures) ∙ not-false (p .result) (c .before .before .before .before .before .before .before .if1 .left) in
+    let f = c .before .before .before .before .before .before .judge-tables .ensures in
+    let s = sound t e (ap isRefused (sym f) ∙ sym (c .before .before .before .before .before .refused .ensures) ∙ c .before .before .before .before .if2 .left) in
+    c .judge-flip-flops .ensures t refl s
+    ∙ goes (moveChecks t) (flipFlopCheck t ∷ []) (c .before .before .before .judge-moves .ensures s) (c .before .before .refused2 .ensures) (c .before .if3 .left)
+    ∙ goes (tableChecks t) (moveChecks t ++ (flipFlopCheck t ∷ [])) f (c .before .before .before .before .before .refused .ensures) (c .before .before .before .before .if2 .left)
+    ∙ size-goes t e
+
+pub check-spec : {M : Type 1} → statement M
+check-spec =
+    tie.close
+    (tie.spec
+    size-passes-requires
+    returns
+    judge-tables-requires
+    refused-requires
+    returns-2
+    judge-moves-requires
+    refused-requires-2
+    returns-3
+    judge-flip-flops-requires
+    returns-4)

@@ -1,0 +1,65 @@
+use Rattle.chart.specs.Verdicts.{idleCheck, fails-at, all-pass}
+use Rattle.chart.specs.Idle.{Ready}
+use Rattle.tables.specs.Given.{move-count}
+use Rattle.meaning.specs.Check.{idlePasses}
+use Rattle.meaning.specs.Tables.{Tables}
+use lib.ListN.{length}
+use borrow.Author.Tests.{not-true, not-false}
+use borrow.Author.Count.{below-none, below-more}
+use native.Mathlib.Omega.{arith}
+use mathlib.Core.Bool.{true}
+use mathlib.Core.Path.{_≡_, sym, _∙_}
+use Prim.Native.Nat.{ℕ, _≤_, _<_, _-_, _/_}
+use Rattle.chart.proofs.judge_idle.Statement.{statement}
+use Rattle.chart.proofs.judge_idle.Tie as tie
+
+abbrev Inv-loop : tie.InvT-loop
+Inv-loop states moves running i₀ i =
+    (i ≤ length moves / 11) × ((c : Tables) → Ready c states moves running → (m : ℕ) → m < i → idlePasses c m ≡ true)
+
+abbrev μ-loop : tie.MeasureT-loop
+μ-loop states moves running i₀ i = length moves / 11 - i
+
+loop-holds : tie.Need-loop-holds Inv-loop μ-loop
+loop-holds c = (omega arith, λ c' r. below-none (λ m. idlePasses c' m ≡ true))
+
+idle-passes-requires : tie.Need-idle-passes-requires Inv-loop μ-loop
+idle-passes-requires c κs = tt
+
+returns : tie.Need-returns Inv-loop μ-loop
+returns c c' r =
+    let n = move-count c' _ (r .moves) in
+    let b = c .before .before .before .loop in
+    let p = c .before .idle-passes in
+    sym (fails-at (idleCheck c') (b .i) (omega arith) (b .inv .1 c' r) (sym (p .ensures c' r) ∙ not-true (p .result) (c .if1 .taken)))
+
+add-i : tie.Need-add-i Inv-loop μ-loop
+add-i c = omega arith
+
+loop-less : tie.Need-loop-less Inv-loop μ-loop
+loop-less c = omega arith
+
+loop-again : tie.Need-loop-again Inv-loop μ-loop
+loop-again c =
+    let b = c .before .before .before .loop in
+    let p = c .before .idle-passes in
+    (omega arith, λ c' r. below-more (λ m. idlePasses c' m ≡ true) (b .i) (b .inv .1 c' r) (sym (p .ensures c' r) ∙ not-false (p .result) (c .if1 .left)))
+
+returns-2 : tie.Need-returns-2 Inv-loop μ-loop
+returns-2 c c' r =
+    let n = move-count c' _ (r .moves) in
+    sym (all-pass (idleCheck c') (λ m h. c .before .loop .inv .1 c' r m (omega arith)))
+
+pub judge-idle-spec : {M : Type 1} → statement M
+judge-idle-spec =
+    tie.close
+    (tie.spec
+    Inv-loop
+    μ-loop
+    loop-holds
+    idle-passes-requires
+    returns
+    add-i
+    loop-less
+    loop-again
+    returns-2)

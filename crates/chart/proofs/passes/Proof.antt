@@ -1,0 +1,138 @@
+use Rattle.tables.specs.Given.{tablesOf}
+use Rattle.meaning.specs.Tables.{timerCount}
+use Rattle.meaning.specs.Check.{pairPasses}
+use mathlib.Core.Path.{refl, ap, _∙_}
+use borrow.Author.Needs.{needs}
+use Rattle.chart.proofs.passes.Statement.{statement}
+use Rattle.chart.proofs.passes.Tie as tie
+
+enum-told : tie.Need-enum-told
+enum-told c = search needs
+
+hierarchy-passes-requires : tie.Need-hierarchy-passes-requires
+hierarchy-passes-requires c κs = search needs
+
+enum-told-2 : tie.Need-enum-told-2
+enum-told-2 c = search needs
+
+initial-passes-requires : tie.Need-initial-passes-requires
+initial-passes-requires c κs = search needs
+
+enum-told-3 : tie.Need-enum-told-3
+enum-told-3 c = search needs
+
+preset-passes-requires : tie.Need-preset-passes-requires
+preset-passes-requires c κs = search needs
+
+enum-told-4 : tie.Need-enum-told-4
+enum-told-4 c = search needs
+
+pair-passes-requires : tie.Need-pair-passes-requires
+pair-passes-requires c κs = search needs
+
+enum-told-5 : tie.Need-enum-told-5
+enum-told-5 c = search needs
+
+wide-requires : tie.Need-wide-requires
+wide-requires c κs = search needs
+
+pair-passes-requires-2 : tie.Need-pair-passes-requires-2
+pair-passes-requires-2 c κs = search needs
+
+enum-told-6 : tie.Need-enum-told-6
+enum-told-6 c = search needs
+
+move-passes-requires : tie.Need-move-passes-requires
+move-passes-requires c κs = search needs
+
+enum-told-7 : tie.Need-enum-told-7
+enum-told-7 c = search needs
+
+literal-passes-requires : tie.Need-literal-passes-requires
+literal-passes-requires c κs = search needs
+
+enum-told-8 : tie.Need-enum-told-8
+enum-told-8 c = search needs
+
+overlap-passes-requires : tie.Need-overlap-passes-requires
+overlap-passes-requires c κs = search needs
+
+returns : tie.Need-returns
+returns c =
+    let a = c .before .before .before .before .before .before .before .args in
+    let t = tablesOf (a .chart) (a .states .now) (a .moves .now) (a .presets .now) (a .timer-pairs .now) (a .output-pairs .now) in
+    rw (c .before .enum-told .given .1) (c .hierarchy-passes .ensures t refl)
+
+returns-2 : tie.Need-returns-2
+returns-2 c =
+    let a = c .before .before .before .before .before .before .before .args in
+    let t = tablesOf (a .chart) (a .states .now) (a .moves .now) (a .presets .now) (a .timer-pairs .now) (a .output-pairs .now) in
+    rw (c .before .enum-told2 .given .1) (c .initial-passes .ensures t refl)
+
+returns-3 : tie.Need-returns-3
+returns-3 c =
+    let a = c .before .before .before .before .before .before .before .args in
+    let t = tablesOf (a .chart) (a .states .now) (a .moves .now) (a .presets .now) (a .timer-pairs .now) (a .output-pairs .now) in
+    rw (c .before .enum-told3 .given .1) (c .preset-passes .ensures t refl)
+
+returns-4 : tie.Need-returns-4
+unfolding timerCount
+returns-4 c =
+    let a = c .before .before .before .before .before .before .before .args in
+    let t = tablesOf (a .chart) (a .states .now) (a .moves .now) (a .presets .now) (a .timer-pairs .now) (a .output-pairs .now) in
+    rw (c .before .enum-told4 .given .1) (c .pair-passes .ensures t refl)
+
+returns-5 : tie.Need-returns-5
+returns-5 c =
+    let a = c .before .before .before .before .before .before .before .before .args in
+    let t = tablesOf (a .chart) (a .states .now) (a .moves .now) (a .presets .now) (a .timer-pairs .now) (a .output-pairs .now) in
+    rw (c .before .before .enum-told5 .given .1) (c .pair-passes2 .ensures t refl ∙ ap (λ m. pairPasses t m (a .output-pairs .now) (a .i)) (c .before .wide .ensures))
+
+returns-6 : tie.Need-returns-6
+returns-6 c =
+    let a = c .before .before .before .before .before .before .before .args in
+    let t = tablesOf (a .chart) (a .states .now) (a .moves .now) (a .presets .now) (a .timer-pairs .now) (a .output-pairs .now) in
+    rw (c .before .enum-told6 .given .1) (c .move-passes .ensures t refl refl)
+
+returns-7 : tie.Need-returns-7
+unfolding timerCount
+returns-7 c =
+    let a = c .before .before .before .before .before .before .before .args in
+    let t = tablesOf (a .chart) (a .states .now) (a .moves .now) (a .presets .now) (a .timer-pairs .now) (a .output-pairs .now) in
+    rw (c .before .enum-told7 .given .1) (c .literal-passes .ensures t refl refl refl)
+
+returns-8 : tie.Need-returns-8
+returns-8 c =
+    let a = c .before .before .before .before .before .before .before .args in
+    let t = tablesOf (a .chart) (a .states .now) (a .moves .now) (a .presets .now) (a .timer-pairs .now) (a .output-pairs .now) in
+    rw (c .before .enum-told8 .given .1) (c .overlap-passes .ensures t refl refl)
+
+pub passes-spec : {M : Type 1} → statement M
+passes-spec =
+    tie.close
+    (tie.spec
+    enum-told
+    hierarchy-passes-requires
+    enum-told-2
+    initial-passes-requires
+    enum-told-3
+    preset-passes-requires
+    enum-told-4
+    pair-passes-requires
+    enum-told-5
+    wide-requires
+    pair-passes-requires-2
+    enum-told-6
+    move-passes-requires
+    enum-told-7
+    literal-passes-requires
+    enum-told-8
+    overlap-passes-requires
+    returns
+    returns-2
+    returns-3
+    returns-4
+    returns-5
+    returns-6
+    returns-7
+    returns-8)

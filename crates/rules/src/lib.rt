@@ -1,0 +1,364 @@
+// The rules that the rows of a chart's tables are held to, one row a call, for any tables at all: document 01's refusals
+// 1 to 8 and 10.
+use meaning::Kind;
+use tables::Chart;
+ghost use mathlib.Core.Path.{_≡_};
+ghost use mathlib.Core.Bool.{true, cond, _||_, not};
+ghost use Prim.Native.Nat.{_%_, _<_};
+ghost use lib.ListN.{length};
+ghost use lib.Dec.{eqb, ltb};
+ghost use Rattle.meaning.specs.Rows.{every};
+ghost use Rattle.meaning.specs.Tables.{Tables, timerCount, superState};
+ghost use Rattle.meaning.specs.Hierarchy.{atOrAbove};
+ghost use Rattle.meaning.specs.Check.{sizePasses, hierarchyPasses, initialPasses, presetPasses, pairAfter, pairPasses, below, movePasses, withinCounts, mayPrecede, placePasses, literalPasses, opposed, clash, overlaps, overlapPasses};
+ghost use Rattle.tables.specs.Given.{tablesOf};
+ghost use Rattle.rules.specs.Parts.{rowsWhole, countsFit, frameFits, markPasses, opposedIn};
+
+// ---- 1 SIZE
+
+// "slice no whole number of rows"
+fn rows_whole(states: &[u16], moves: &[i16], timer_pairs: &[u16], output_pairs: &[u16]) -> bool
+    ensures { λ r. ⌜ r ≡ rowsWhole (length (now (states .entry))) (length (now (moves .entry))) (length (now («timer_pairs» .entry))) (length (now («output_pairs» .entry))) ⌝ }
+{
+    if states.len() % 2 != 0 {
+        return false;
+    }
+    if moves.len() % 11 != 0 {
+        return false;
+    }
+    if timer_pairs.len() % 2 != 0 {
+        return false;
+    }
+    output_pairs.len() % 2 == 0
+}
+
+// "count .. beyond its limit, no state"
+fn counts_fit(
+    states: usize,
+    moves: usize,
+    timers: usize,
+    timer_pairs: usize,
+    output_pairs: usize,
+) -> bool
+    ensures { λ r. ⌜ r ≡ countsFit states moves timers «timer_pairs» «output_pairs» ⌝ }
+{
+    if states < 1 {
+        return false;
+    }
+    if Chart::STATES < states {
+        return false;
+    }
+    if Chart::MOVES < moves {
+        return false;
+    }
+    if Chart::TIMERS < timers {
+        return false;
+    }
+    if Chart::PAIRS < timer_pairs {
+        return false;
+    }
+    output_pairs <= Chart::PAIRS
+}
+
+// "count or scan step beyond its limit"
+fn frame_fits(inputs: u32, outputs: u32, step: u32) -> bool
+    ensures { λ r. ⌜ r ≡ frameFits inputs outputs step ⌝ }
+{
+    if Chart::INPUTS < inputs {
+        return false;
+    }
+    if Chart::OUTPUTS < outputs {
+        return false;
+    }
+    if step < 1 {
+        return false;
+    }
+    step <= Chart::STEP
+}
+
+pub fn size_passes(
+    chart: Chart,
+    states: &[u16],
+    moves: &[i16],
+    presets: &[u32],
+    timer_pairs: &[u16],
+    output_pairs: &[u16],
+) -> bool
+    ensures { λ r. ⌜ r ≡ sizePasses (tablesOf chart (now (states .entry)) (now (moves .entry)) (now (presets .entry)) (now («timer_pairs» .entry)) (now («output_pairs» .entry))) ⌝ }
+{
+    if !rows_whole(states, moves, timer_pairs, output_pairs) {
+        return false;
+    }
+    if !counts_fit(
+        states.len() / 2,
+        moves.len() / 11,
+        presets.len(),
+        timer_pairs.len() / 2,
+        output_pairs.len() / 2,
+    ) {
+        return false;
+    }
+    frame_fits(chart.inputs, chart.outputs, chart.step)
+}
+
+// ---- 2 HIERARCHY and 3 INITIAL
+
+fn super_state_passes(states: &[u16], s: usize) -> bool
+    ensures { λ r. ⌜ ((c : Tables) → c .states ≡ now (states .entry) → r ≡ cond (eqb s 0) (eqb (superState c s) 0) (ltb (superState c s) s)) ⌝ }
+{
+    if s == 0 {
+        return tables::super_state(states, s) == 0;
+    }
+    tables::super_state(states, s) < s
+}
+
+pub fn hierarchy_passes(states: &[u16], s: usize) -> bool
+    ensures { λ r. ⌜ ((c : Tables) → c .states ≡ now (states .entry) → r ≡ hierarchyPasses c s) ⌝ }
+{
+    if super_state_passes(states, s) {
+        return tables::depth(states, s) <= Chart::DEPTH;
+    }
+    false
+}
+
+pub fn initial_passes(states: &[u16], s: usize) -> bool
+    ensures { λ r. ⌜ ((c : Tables) → c .states ≡ now (states .entry) → r ≡ initialPasses c s) ⌝ }
+{
+    let first = tables::initial(states, s);
+    if tables::leaf(states, s) {
+        return first == 0;
+    }
+    tables::sub_state(states, s, first)
+}
+
+// ---- 4 PRESET, 5 TIMER PAIR and 6 OUTPUT PAIR
+
+pub fn preset_passes(presets: &[u32], i: usize) -> bool
+    ensures { λ r. ⌜ ((c : Tables) → c .presets ≡ now (presets .entry) → r ≡ presetPasses c i) ⌝ }
+{
+    if presets.len() <= i {
+        return false;
+    }
+    let ms = presets[i];
+    if ms < 1 {
+        return false;
+    }
+    ms <= Chart::PRESET
+}
+
+// "each table strictly ascending"
+fn pair_after(pairs: &[u16], j: usize, i: usize) -> bool
+    ensures { λ r. ⌜ r ≡ pairAfter (now (pairs .entry)) j i ⌝ }
+{
+    let before = tables::pair_number(pairs, j);
+    let number = tables::pair_number(pairs, i);
+    if before < number {
+        return true;
+    }
+    if before == number {
+        return tables::pair_state(pairs, j) < tables::pair_state(pairs, i);
+    }
+    false
+}
+
+// "unknown timer or state, or not above the pair before": `many` is how many timers or outputs there are.
+pub fn pair_passes(states: &[u16], many: usize, pairs: &[u16], i: usize) -> bool
+    ensures { λ r. ⌜ ((c : Tables) → c .states ≡ now (states .entry) → r ≡ pairPasses c many (now (pairs .entry)) i) ⌝ }
+{
+    let number = tables::pair_number(pairs, i);
+    if number < 1 {
+        return false;
+    }
+    if many < number {
+        return false;
+    }
+    if states.len() / 2 <= tables::pair_state(pairs, i) {
+        return false;
+    }
+    if i == 0 {
+        return true;
+    }
+    pair_after(pairs, i - 1, i)
+}
+
+// ---- 7 MOVE
+
+// Whether v is one of 0, 1, .., n - 1.
+fn below(n: usize, v: i16) -> bool
+    ensures { λ r. ⌜ r ≡ below n v ⌝ }
+{
+    if v < 0 {
+        return false;
+    }
+    (v as usize) < n
+}
+
+pub fn move_passes(states: &[u16], moves: &[i16], i: usize) -> bool
+    ensures { λ r. ⌜ ((c : Tables) → c .states ≡ now (states .entry) → c .moves ≡ now (moves .entry) → r ≡ movePasses c i) ⌝ }
+{
+    if !below(states.len() / 2, tables::cell(moves, i, 0)) {
+        return false;
+    }
+    if !below(states.len() / 2, tables::cell(moves, i, 1)) {
+        return false;
+    }
+    mark_passes(states, moves, i)
+}
+
+// "other mark, mark 1 on a leaf"
+fn mark_passes(states: &[u16], moves: &[i16], i: usize) -> bool
+    ensures { λ r. ⌜ ((c : Tables) → c .states ≡ now (states .entry) → c .moves ≡ now (moves .entry) → r ≡ markPasses c i) ⌝ }
+{
+    let mark = tables::cell(moves, i, 2);
+    if below(1, mark) {
+        return true;
+    }
+    if below(2, mark) {
+        return !tables::leaf(states, tables::target(moves, i));
+    }
+    false
+}
+
+// ---- 8 LITERAL
+
+// "or beyond the counts"
+fn within_counts(inputs: u32, timers: usize, kind: Kind) -> bool
+    ensures { λ r. ⌜ ((c : Tables) → c .inputs ≡ inputs → timerCount c ≡ timers → r ≡ withinCounts c kind) ⌝ }
+{
+    match kind {
+        Kind::Unused => true,
+        Kind::Input(i) => (i as u32) <= inputs,
+        Kind::Timer(t) => (t as usize) <= timers,
+        Kind::Unknown => false,
+    }
+}
+
+// "0 is an unused place, and only 0 follows it. No input or timer stands twice in a move."
+fn may_precede(moves: &[i16], i: usize, j: u8, k: u8) -> bool
+    ensures { λ r. ⌜ ((c : Tables) → c .moves ≡ now (moves .entry) → r ≡ mayPrecede c i j k) ⌝ }
+{
+    let later = tables::size(tables::literal(moves, i, k));
+    if later == 0 {
+        return true;
+    }
+    let earlier = tables::size(tables::literal(moves, i, j));
+    if earlier == 0 {
+        return false;
+    }
+    earlier != later
+}
+
+fn all_precede(moves: &[i16], i: usize, k: u8) -> bool
+    ensures { λ r. ⌜ ((c : Tables) → c .moves ≡ now (moves .entry) → r ≡ every (λ j. mayPrecede c i j k) 0 k) ⌝ }
+{
+    let mut j = 0;
+    while j < k {
+        if !may_precede(moves, i, j, k) {
+            return false;
+        }
+        j += 1;
+    }
+    true
+}
+
+fn place_passes(inputs: u32, timers: usize, moves: &[i16], i: usize, k: u8) -> bool
+    ensures { λ r. ⌜ ((c : Tables) → c .inputs ≡ inputs → timerCount c ≡ timers → c .moves ≡ now (moves .entry) → r ≡ placePasses c i k) ⌝ }
+{
+    if within_counts(inputs, timers, tables::kind(tables::literal(moves, i, k))) {
+        return all_precede(moves, i, k);
+    }
+    false
+}
+
+pub fn literal_passes(inputs: u32, timers: usize, moves: &[i16], i: usize) -> bool
+    ensures { λ r. ⌜ ((c : Tables) → c .inputs ≡ inputs → timerCount c ≡ timers → c .moves ≡ now (moves .entry) → r ≡ literalPasses c i) ⌝ }
+{
+    let mut k = 0;
+    while k < 8 {
+        if !place_passes(inputs, timers, moves, i, k) {
+            return false;
+        }
+        k += 1;
+    }
+    true
+}
+
+// ---- 10 OVERLAP
+
+// One asks for on what the other asks for off.
+fn opposed(y: i16, z: i16) -> bool
+    ensures { λ r. ⌜ r ≡ opposed y z ⌝ }
+{
+    let n = tables::size(y);
+    if n == 0 {
+        return false;
+    }
+    if n != tables::size(z) {
+        return false;
+    }
+    if tables::wanted(y) {
+        return !tables::wanted(z);
+    }
+    tables::wanted(z)
+}
+
+fn opposed_in(moves: &[i16], y: i16, j: usize) -> bool
+    ensures { λ r. ⌜ ((c : Tables) → c .moves ≡ now (moves .entry) → r ≡ opposedIn c y j) ⌝ }
+{
+    let mut b = 0;
+    while b < 8 {
+        if opposed(y, tables::literal(moves, j, b)) {
+            return true;
+        }
+        b += 1;
+    }
+    false
+}
+
+// No setting of inputs and of timers makes both moves enabled.
+fn clash(moves: &[i16], i: usize, j: usize) -> bool
+    ensures { λ r. ⌜ ((c : Tables) → c .moves ≡ now (moves .entry) → r ≡ clash c i j) ⌝ }
+{
+    let mut a = 0;
+    while a < 8 {
+        if opposed_in(moves, tables::literal(moves, i, a), j) {
+            return true;
+        }
+        a += 1;
+    }
+    false
+}
+
+// "one source is at or above the other"
+fn near(states: &[u16], a: usize, b: usize) -> bool
+    ensures { λ r. ⌜ ((c : Tables) → c .states ≡ now (states .entry) → r ≡ (atOrAbove c a b || atOrAbove c b a)) ⌝ }
+{
+    if tables::at_or_above(states, a, b) {
+        return true;
+    }
+    tables::at_or_above(states, b, a)
+}
+
+// The sources come first: they tell most pairs of moves apart, and cost less than the 64 pairs of literals.
+fn overlaps(states: &[u16], moves: &[i16], i: usize, j: usize) -> bool
+    ensures { λ r. ⌜ ((c : Tables) → c .states ≡ now (states .entry) → c .moves ≡ now (moves .entry) → r ≡ overlaps c i j) ⌝ }
+{
+    if near(states, tables::source(moves, i), tables::source(moves, j)) {
+        return !clash(moves, i, j);
+    }
+    false
+}
+
+// "an earlier move overlaps it"
+pub fn overlap_passes(states: &[u16], moves: &[i16], i: usize) -> bool
+    ensures { λ r. ⌜ ((c : Tables) → c .states ≡ now (states .entry) → c .moves ≡ now (moves .entry) → r ≡ overlapPasses c i) ⌝ }
+{
+    let mut j = 0;
+    while j < i {
+        if overlaps(states, moves, i, j) {
+            return false;
+        }
+        j += 1;
+    }
+    true
+}
