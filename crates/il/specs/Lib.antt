@@ -1,0 +1,6 @@
+pub mod Run
+pub mod Advance
+pub mod QWord
+pub mod Follow
+pub mod Accepted
+pub mod Scans

@@ -1,0 +1,21 @@
+use borrow.Author.Needs.{needs}
+use Rattle.instruction.proofs.Running.or_aside.Statement.{statement}
+use Rattle.instruction.proofs.Running.or_aside.Tie as tie
+use Rattle.instruction.proofs.Running.or_aside.Reads as reads
+use Rattle.instruction.proofs.Running.or_aside.Lts as lts
+use Rattle.instruction.proofs.Running.load.Reads as load-reads
+
+-- src/lib.rt:140:13
+load-requires : tie.Need-load-requires
+load-requires c κs = search needs
+
+-- src/lib.rt:140:13
+returns : tie.Need-returns
+returns c = rw (c .load .ensures, c .before .if1 .taken)
+
+-- src/lib.rt:135:5
+returns-2 : tie.Need-returns-2
+returns-2 c = rw (c .if1 .left)
+
+pub or-aside-spec : {M : Type 1} → statement M
+or-aside-spec = tie.close (tie.spec load-requires returns returns-2)

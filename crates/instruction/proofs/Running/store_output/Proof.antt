@@ -1,0 +1,22 @@
+use borrow.Author.Needs.{needs}
+use Rattle.instruction.proofs.Running.store_output.Statement.{statement}
+use Rattle.instruction.proofs.Running.store_output.Tie as tie
+use Rattle.instruction.proofs.Running.store_output.Reads as reads
+use Rattle.instruction.proofs.Running.store_output.Lts as lts
+use Rattle.instruction.proofs.from_zero.Reads as from-zero-reads
+use Rattle.instruction.proofs.with_bit.Reads as with-bit-reads
+
+-- src/lib.rt:171:42
+from-zero-requires : tie.Need-from-zero-requires
+from-zero-requires c κs = search needs
+
+-- src/lib.rt:171:9
+with-bit-requires : tie.Need-with-bit-requires
+with-bit-requires c κs = search needs
+
+-- src/lib.rt:166:5
+returns : tie.Need-returns
+returns c = rw (c .with-bit .ensures, c .before .from-zero .ensures)
+
+pub store-output-spec : {M : Type 1} → statement M
+store-output-spec = tie.close (tie.spec from-zero-requires with-bit-requires returns)

@@ -1,0 +1,20 @@
+use Rattle.instruction.specs.Effect.{calledWith}
+use Rattle.meaning.specs.Scan.{withPt, withIn}
+use borrow.Author.Needs.{needs}
+use Rattle.instruction.proofs.cal.Statement.{statement}
+use Rattle.instruction.proofs.cal.Tie as tie
+use Rattle.instruction.proofs.cal.Reads as reads
+use Rattle.instruction.proofs.cal.Lts as lts
+use Rattle.instruction.proofs.ton.Reads as ton-reads
+
+-- src/lib.rt:414:5
+ton-requires : tie.Need-ton-requires
+ton-requires c κs = search needs
+
+-- src/lib.rt:404:1
+returns : tie.Need-returns
+unfolding calledWith withPt withIn
+returns c = c .ton .ensures
+
+pub cal-spec : {M : Type 1} → statement M
+cal-spec = tie.close (tie.spec ton-requires returns)

@@ -1,0 +1,166 @@
+/* Splicetuck for C: charts (state tables) to Instruction List and back, and the
+ * run of both.
+ *
+ * Of every call:
+ * - It can be made with any content of the lent slices; what is not right is
+ *   refused by a number of document 01, and the refusals of a call are listed
+ *   below in the order in which they are looked for. The first one found is
+ *   the answer.
+ * - A refused call writes nothing. An accepted call writes its result from the
+ *   front of a slice and keeps the rest of the slice.
+ * - A length counts numbers of the slice's type, not bytes and not rows. The
+ *   pointer must lead to so many numbers; of a slice of length 0 it may be
+ *   NULL. A slice that a call may write must not overlap any other. */
+#ifndef SPLICETUCK_H
+#define SPLICETUCK_H
+
+#include <stdbool.h>
+#include <stddef.h>
+#include <stdint.h>
+
+/* What a call answers. Document 01 has a table of the refusals:
+ *    0 ACCEPTED       4 PRESET          8 LITERAL       12 ROOM
+ *    1 SIZE           5 TIMER PAIR      9 IDLE TIMER    13 TEXT
+ *    2 HIERARCHY      6 OUTPUT PAIR    10 OVERLAP       14 STATE
+ *    3 INITIAL        7 MOVE           11 FLIP-FLOPS    15 SCANS
+ * number: 0 when accepted, else the refusal.
+ * place:  0 when accepted, else where: the least failing row from 0; of ROOM
+ *         the length needed; of TEXT the byte where the first impossible line
+ *         begins or the index of the first impossible word, and the length if
+ *         only lines or words are missing; 0 of SIZE, FLIP-FLOPS, STATE, SCANS.
+ * length: what the call says when accepted, 0 when refused. */
+struct splicetuck_answer {
+    uint32_t number;
+    uint64_t place;
+    uint64_t length;
+};
+
+/* The tables are lent to five calls, always as the same thirteen arguments:
+ * step          scan step in ms, 1 to 1,000
+ * inputs        how many inputs, at most 64
+ * outputs       how many outputs, at most 64
+ * states        two numbers a state: super-state, initial sub-state
+ * moves         eleven a move: source, target, mark, eight literal places
+ * presets       one a timer, in ms
+ * timer_pairs   two a pair: timer from 1, state
+ * output_pairs  two a pair: output from 1, state */
+
+/* Checks the tables.
+ * Refusals: 1 to 11 in this order. Writes nothing; length is 0. */
+struct splicetuck_answer splicetuck_check(
+    uint32_t step, uint32_t inputs, uint32_t outputs,
+    const uint16_t *states, size_t states_len,
+    const int16_t *moves, size_t moves_len,
+    const uint32_t *presets, size_t presets_len,
+    const uint16_t *timer_pairs, size_t timer_pairs_len,
+    const uint16_t *output_pairs, size_t output_pairs_len);
+
+/* Writes the chart's Instruction List.
+ * Refusals: 1 to 11, then ROOM when text_len is below the bytes of the text,
+ * with those bytes as its place.
+ * Writes the text, which no NUL ends, to the front of text; length is its
+ * bytes. */
+struct splicetuck_answer splicetuck_write(
+    uint32_t step, uint32_t inputs, uint32_t outputs,
+    const uint16_t *states, size_t states_len,
+    const int16_t *moves, size_t moves_len,
+    const uint32_t *presets, size_t presets_len,
+    const uint16_t *timer_pairs, size_t timer_pairs_len,
+    const uint16_t *output_pairs, size_t output_pairs_len,
+    uint8_t *text, size_t text_len);
+
+/* Writes the text of a list of instruction words.
+ * Refusals: TEXT with the index of a word, or words_len; then ROOM with the
+ * bytes needed.
+ * Writes the text, which no NUL ends, to the front of text; length is its
+ * bytes. */
+struct splicetuck_answer splicetuck_write_words(
+    const uint32_t *words, size_t words_len,
+    uint8_t *text, size_t text_len);
+
+/* Reads a text of Instruction List.
+ * Refusals: TEXT with the byte where a line begins, or text_len; then ROOM with
+ * the words needed.
+ * Writes the instruction words to the front of words; length is their
+ * number. */
+struct splicetuck_answer splicetuck_read(
+    const uint8_t *text, size_t text_len,
+    uint32_t *words, size_t words_len);
+
+/* What a controller must lend to run a list of instruction words.
+ * number, place: as in struct splicetuck_answer.
+ * flip_flops: one more than the highest %MX named, 0 if none is.
+ * blocks: the timer blocks declared. Both are 0 when refused. */
+struct splicetuck_sizes {
+    uint32_t number;
+    uint64_t place;
+    uint64_t flip_flops;
+    uint64_t blocks;
+};
+
+/* Tells these sizes.
+ * Refusals: TEXT with the index of a word, or words_len. Writes nothing. */
+struct splicetuck_sizes splicetuck_sizes_of(
+    const uint32_t *words, size_t words_len);
+
+/* Tells how many numbers a state of the chart has.
+ * Refusals: 1 to 11. Writes nothing; length is that number. */
+struct splicetuck_answer splicetuck_state_length(
+    uint32_t step, uint32_t inputs, uint32_t outputs,
+    const uint16_t *states, size_t states_len,
+    const int16_t *moves, size_t moves_len,
+    const uint32_t *presets, size_t presets_len,
+    const uint16_t *timer_pairs, size_t timer_pairs_len,
+    const uint16_t *output_pairs, size_t output_pairs_len);
+
+/* Runs the chart over all scans, from the lent state on.
+ * state: the code of the remembered sub-state for each super-state by rising
+ * number, then a value in ms for each timer; all zero is the start.
+ * words_in: an input word a scan, input i the bit of weight 2^(i-1); bits above
+ * the count have no effect.
+ * Refusals: 1 to 11; STATE when state_len is not what splicetuck_state_length
+ * tells, or a number is a code of no sub-state, or a timer value is not a whole
+ * number of scan steps from 0 to N, or not 0 while the timer is idle; SCANS
+ * when leaves_len or words_out_len differs from scans.
+ * Writes the state after the last scan to state, and for each scan the active
+ * leaf to leaves and the output word to words_out; length is scans. */
+struct splicetuck_answer splicetuck_run_chart(
+    uint32_t step, uint32_t inputs, uint32_t outputs,
+    const uint16_t *states, size_t states_len,
+    const int16_t *moves, size_t moves_len,
+    const uint32_t *presets, size_t presets_len,
+    const uint16_t *timer_pairs, size_t timer_pairs_len,
+    const uint16_t *output_pairs, size_t output_pairs_len,
+    uint32_t *state, size_t state_len,
+    const uint64_t *words_in, size_t scans,
+    uint16_t *leaves, size_t leaves_len,
+    uint64_t *words_out, size_t words_out_len);
+
+/* A timer block: IN, PT, ET, Q and the IN of the last call. */
+struct splicetuck_block {
+    bool on;
+    uint32_t pt;
+    uint32_t et;
+    bool q;
+    bool last;
+};
+
+/* Runs a list of instruction words over all scans, from the lent controller on.
+ * flip_flops: a byte of 0 or 1 for each %MX from %MX0; blocks: T1 first; all
+ * zero is the start. words_in: an input word a scan, of which the instructions
+ * read all 64 bits.
+ * Refusals: SIZE when step is not 1 to 1,000; TEXT with the index of a word, or
+ * words_len; STATE when flip_flops_len or blocks_len is not what
+ * splicetuck_sizes_of tells, a flip-flop byte is not 0 or 1, or a block's et is
+ * above its rung's time; SCANS when words_out_len differs from scans.
+ * Writes flip_flops and blocks as the last scan leaves them, and for each scan
+ * the output word to words_out; length is scans. */
+struct splicetuck_answer splicetuck_run_program(
+    uint32_t step,
+    const uint32_t *words, size_t words_len,
+    uint8_t *flip_flops, size_t flip_flops_len,
+    struct splicetuck_block *blocks, size_t blocks_len,
+    const uint64_t *words_in, size_t scans,
+    uint64_t *words_out, size_t words_out_len);
+
+#endif
