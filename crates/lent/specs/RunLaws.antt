@@ -1,0 +1,57 @@
+-- The answers of a run over a lent chart state.
+use mathlib.Core.Path.{_≡_, refl, ap, _∙_}
+use mathlib.Core.Logic.{_≢_}
+use Prim.Native.Nat.{ℕ}
+use mathlib.Core.Bool.{Bool, true, false, cond}
+use mathlib.Core.List.{List, [], _∷_}
+use lib.ListN.{length}
+use lib.Dec.{eqb}
+use borrow.Author.Tests.{eq-eqb, ne-eqb}
+use Rattle.meaning.specs.Rows.{least}
+use Rattle.meaning.specs.Tables.{Tables}
+use Rattle.meaning.specs.Machine.{State}
+use Rattle.meaning.specs.Lent.{stateOf, lentOf, statePasses}
+use Rattle.meaning.specs.Check.{Check, firstFailing, verdictOf}
+use Rattle.meaning.specs.Calls.{stateCheck, scansCheck}
+use Rattle.meaning.specs.declared.Refusal.{Refusal}
+use Rattle.meaning.specs.declared.Refusal.the-variants as R
+use Rattle.meaning.specs.declared.Verdict.the-variants.{Accepted, Refused}
+use Rattle.machine.specs.Held.{Scanned}
+use Rattle.lent.specs.declared.Ran.the-variants as A
+use Rattle.lent.specs.Slice.{laterVerdict, answer, left, LentRun}
+
+-- a check of one row
+one-row : (f : ℕ → Refusal) (b : Bool) (ks : List Check) → verdictOf (record { refusal = f; rows = 1; passes = λ i. b } ∷ ks) ≡ cond b (verdictOf ks) (Refused (f 0))
+unfolding verdictOf firstFailing least
+one-row f true ks = refl
+one-row f false ks = refl
+
+module _ (c : Tables) (xs l ls os : List ℕ) where
+  later : laterVerdict c l xs ls os
+      ≡ cond (statePasses c l) (cond (eqb (length ls) (length xs)) (cond (eqb (length os) (length xs)) Accepted (Refused R.Scans)) (Refused R.Scans)) (Refused R.State)
+  unfolding stateCheck scansCheck verdictOf
+  later =
+      let last : List Check = scansCheck (length xs) (length os) ∷ [] in
+      one-row (λ p. R.State) (statePasses c l) (scansCheck (length xs) (length ls) ∷ last)
+      ∙ ap (λ v. cond (statePasses c l) v (Refused R.State)) (one-row (λ p. R.Scans) (eqb (length ls) (length xs)) last
+      ∙ ap (λ v. cond (eqb (length ls) (length xs)) v (Refused R.Scans)) (one-row (λ p. R.Scans) (eqb (length os) (length xs)) []))
+
+  refused : (r : Refusal) → laterVerdict c l xs ls os ≡ Refused r → LentRun c xs l ls os (A.Refused r) l ls os
+  unfolding answer left
+  refused r e = record { answers = rw e; state = rw e; leaves = rw e; outputs = rw e }
+
+  pub refused-state : statePasses c l ≡ false → LentRun c xs l ls os (A.Refused R.State) l ls os
+  refused-state e = refused R.State (later ∙ rw e)
+
+  pub refused-leaves : statePasses c l ≡ true → length ls ≢ length xs → LentRun c xs l ls os (A.Refused R.Scans) l ls os
+  refused-leaves e n = refused R.Scans (later ∙ rw (e, ne-eqb (length ls) (length xs) n))
+
+  pub refused-outputs : statePasses c l ≡ true → length ls ≡ length xs → length os ≢ length xs → LentRun c xs l ls os (A.Refused R.Scans) l ls os
+  refused-outputs e p n = refused R.Scans (later ∙ rw (e, eq-eqb (length ls) (length xs) p, ne-eqb (length os) (length xs) n))
+
+  pub done : statePasses c l ≡ true → length ls ≡ length xs → length os ≡ length xs → (s : State) (l′ ls′ os′ : List ℕ)
+      → Scanned c (stateOf c l) xs s ls′ os′ → l′ ≡ lentOf c s → LentRun c xs l ls os (A.Done (length xs)) l′ ls′ os′
+  unfolding answer left
+  done e p q s l′ ls′ os′ r f =
+      let v : laterVerdict c l xs ls os ≡ Accepted = later ∙ rw (e, eq-eqb (length ls) (length xs) p, eq-eqb (length os) (length xs) q) in
+      record { answers = rw v; state = rw v (f ∙ ap (lentOf c) (r .state)); leaves = rw v (r .leaves); outputs = rw v (r .outputs) }

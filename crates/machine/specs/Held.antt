@@ -1,0 +1,37 @@
+-- The machine's state as the code holds it, and what a run of it leaves.
+use mathlib.Core.Path.{_≡_}
+use Prim.Native.Nat.{ℕ, _+_, _*_, _-_, _/_, min}
+use mathlib.Core.Bool.{Bool, cond}
+use mathlib.Core.List.{List, map}
+use lib.ListN.{take}
+use lib.IntN.{ℤ}
+use Rattle.meaning.specs.Tables.{Tables, stateCount, timerCount}
+use Rattle.meaning.specs.Machine.{State, Seen, trace, after}
+
+-- the state that is held in an array of sub-states and an array of values
+abbrev pub held : Tables → List ℕ → List ℕ → State
+held c m ts = record { memory = take (stateCount c) m; timers = take (timerCount c) ts }
+
+-- N scan steps, for a preset p and the scan step d
+abbrev pub longest : ℕ → ℕ → ℕ
+longest d p = (p + d - 1) / d * d
+
+-- a value after a step, for a timer that ran before and runs after, or not
+abbrev pub grown : ℕ → ℕ → Bool → ℕ → ℕ
+grown d p b v = cond b (min (v + d) (longest d p)) 0
+
+-- after scans on the words xs from s: the state, the leaves and the output words
+pub record Scanned (c : Tables) (s : State) (xs : List ℕ) (s′ : State) (ls os : List ℕ) : Type 0 where
+  pub state : s′ ≡ after c s xs
+  pub leaves : ls ≡ map (λ (e : Seen). e .leaf) (trace c s xs)
+  pub outputs : os ≡ map (λ (e : Seen). e .outputs) (trace c s xs)
+
+-- c is what these numbers and tables are
+pub record Given (c : Tables) (d o : ℕ) (ss : List ℕ) (ms : List ℤ) (ps ts os : List ℕ) : Type 0 where
+  pub step : c .step ≡ d
+  pub outputs : c .outputs ≡ o
+  pub states : c .states ≡ ss
+  pub moves : c .moves ≡ ms
+  pub presets : c .presets ≡ ps
+  pub timerPairs : c .timerPairs ≡ ts
+  pub outputPairs : c .outputPairs ≡ os
