@@ -3,6 +3,15 @@ use mathlib.Core.Path.{_≡_, sym, ap, _∙_}
 use Prim.Native.Nat.{ℕ}
 use Rattle.meaning.specs.Refusals.{verdictNumber, verdictPlace}
 use Rattle.meaning.specs.declared.Verdict.{Verdict}
+use Rattle.lent.specs.declared.Ran.{Ran}
+use Rattle.lent.specs.declared.Ran.the-variants.{Done, Refused}
+use Rattle.meaning.specs.declared.Verdict.the-variants as G
+use Rattle.meaning.specs.Refusals.{numberOf, placeOf}
+use Rattle.words.specs.declared.Written.{Written}
+use Rattle.words.specs.declared.Written.the-variants as W
+use Rattle.words.specs.declared.Sizes.{Sizes}
+use Rattle.words.specs.declared.Sizes.the-variants as S
+use Rattle.capi.specs.declared.Controller.{Controller}
 use Rattle.capi.specs.declared.Answer.{Answer}
 
 pub record Told (v : Verdict) (n : ℕ) (a : Answer) : Type 0 where
@@ -17,3 +26,23 @@ one-answer v n a b p q = λ i. record {
   place = (p .place ∙ sym (q .place)) i;
   length = (p .length ∙ sym (q .length)) i;
 }
+
+-- a run that was done tells how many scans there were
+abbrev pub RanTold : Ran → Answer → Type 0
+RanTold (Done n) a = Told G.Accepted n a
+RanTold (Refused r) a = Told (G.Refused r) 0 a
+
+abbrev pub WrittenTold : Written → Answer → Type 0
+WrittenTold (W.Wrote n) a = Told G.Accepted n a
+WrittenTold (W.Refused r) a = Told (G.Refused r) 0 a
+
+-- the sizes of a controller, or why there are none
+pub record SizesGiven (n p f b : ℕ) (a : Controller) : Type 0 where
+  pub number : a .number ≡ n
+  pub place : a .place ≡ p
+  pub flips : a .flips ≡ f
+  pub blocks : a .blocks ≡ b
+
+abbrev pub SizesTell : Sizes → Controller → Type 0
+SizesTell (S.Controller f b) a = SizesGiven 0 0 f b a
+SizesTell (S.Refused r) a = SizesGiven (numberOf r) (placeOf r) 0 0 a

@@ -1,12 +1,20 @@
 // The product's calls for C: numbers, and slices as a pointer and a length. include/splicetuck.h declares them.
+use lent::Ran;
 use meaning::Refusal;
 use meaning::Verdict;
 use tables::Chart;
+use words::Sizes;
+use words::Written;
 ghost use mathlib.Core.Path.{_≡_};
 ghost use Rattle.meaning.specs.Check.{verdict};
 ghost use Rattle.meaning.specs.declared.Verdict.{Verdict};
 ghost use Rattle.tables.specs.Given.{tablesOf};
-ghost use Rattle.capi.specs.Answers.{Told};
+ghost use Rattle.runs.specs.Runs.{ChartRan};
+ghost use Rattle.lent.specs.declared.Ran.{Ran};
+ghost use Rattle.capi.specs.Answers.{Told, RanTold, WrittenTold, SizesTell};
+ghost use Rattle.words.specs.Answers.{WordsWritten, SizesTold};
+ghost use Rattle.words.specs.declared.Written.{Written};
+ghost use Rattle.words.specs.declared.Sizes.{Sizes};
 
 // Document 01's number of the answer, its place, and how much was written.
 #[repr(C)]
@@ -59,4 +67,112 @@ pub extern "C" fn splicetuck_check(
         outputs: outputs,
     };
     tell(chart::check(chart, states, moves, presets, timer_pairs, output_pairs))
+}
+
+fn tell_run(r: Ran) -> Answer
+    ensures { λ a. ⌜ RanTold r a ⌝ }
+{
+    match r {
+        Ran::Done(n) => Answer {
+            number: 0,
+            place: 0,
+            length: n,
+        },
+        Ran::Refused(r) => refused(r),
+    }
+}
+
+// The run of a chart over lent state: refusals 1 to 11, STATE, SCANS.
+#[no_mangle]
+pub extern "C" fn splicetuck_run_chart(
+    step: u32,
+    inputs: u32,
+    outputs: u32,
+    states: &[u16],
+    moves: &[i16],
+    presets: &[u32],
+    timer_pairs: &[u16],
+    output_pairs: &[u16],
+    state: &mut [u32],
+    words_in: &[u64],
+    leaves: &mut [u16],
+    words_out: &mut [u64],
+) -> Answer
+    ensures { λ a. ⌜ ((r : Ran) × ChartRan (tablesOf (record { step = step; inputs = inputs; outputs = outputs }) (now (states .entry)) (now (moves .entry)) (now (presets .entry)) (now («timer_pairs» .entry)) (now («output_pairs» .entry)))
+        (now («words_in» .entry)) (now (state .entry)) (now (leaves .entry)) (now («words_out» .entry)) r (now (state .exit)) (now (leaves .exit)) (now («words_out» .exit)) × RanTold r a) ⌝ }
+{
+    let chart = Chart {
+        step: step,
+        inputs: inputs,
+        outputs: outputs,
+    };
+    tell_run(runs::run_chart(
+        chart,
+        states,
+        moves,
+        presets,
+        timer_pairs,
+        output_pairs,
+        state,
+        words_in,
+        leaves,
+        words_out,
+    ))
+}
+
+fn tell_written(w: Written) -> Answer
+    ensures { λ a. ⌜ WrittenTold w a ⌝ }
+{
+    match w {
+        Written::Wrote(n) => Answer {
+            number: 0,
+            place: 0,
+            length: n,
+        },
+        Written::Refused(r) => refused(r),
+    }
+}
+
+// The text of a list of words: refusals TEXT, ROOM.
+#[no_mangle]
+pub extern "C" fn splicetuck_write_words(words: &[u32], text: &mut [u8]) -> Answer
+    ensures { λ a. ⌜ ((w : Written) × WordsWritten (now (words .entry)) (now (text .entry)) w (now (text .exit)) × WrittenTold w a) ⌝ }
+{
+    tell_written(words::write_words(words, text))
+}
+
+// How many flip-flop bytes and blocks a controller for a list of words has.
+#[repr(C)]
+pub struct Controller {
+    pub number: u32,
+    pub place: usize,
+    pub flips: usize,
+    pub blocks: usize,
+}
+
+fn tell_sizes(s: Sizes) -> Controller
+    ensures { λ a. ⌜ SizesTell s a ⌝ }
+{
+    match s {
+        Sizes::Controller { flip_flops, blocks } => Controller {
+            number: 0,
+            place: 0,
+            flips: flip_flops,
+            blocks: blocks,
+        },
+        Sizes::Refused(r) => Controller {
+            number: meaning::number(r),
+            place: meaning::place(r),
+            flips: 0,
+            blocks: 0,
+        },
+    }
+}
+
+// Refusal TEXT.
+#[no_mangle]
+pub extern "C" fn splicetuck_sizes_of(words: &[u32]) -> Controller
+    ensures { λ a. ⌜ ((s : Sizes) × SizesTold (now (words .entry)) s × SizesTell s a) ⌝ }
+{
+    tell_sizes(words::sizes_of(words))
 }

@@ -1,0 +1,44 @@
+use native.Mathlib.Omega.{arith}
+use Rattle.meaning.specs.declared.Operand.the-variants.{True}
+use Rattle.meaning.specs.declared.Operator.the-variants.{Ld}
+use Rattle.bits.specs.SentLaws.{put-line, put-nil}
+use borrow.Author.Needs.{needs}
+use Rattle.bits.proofs.put_true.Statement.{statement}
+use Rattle.bits.proofs.put_true.Tie as tie
+
+enum-told : tie.Need-enum-told
+enum-told c = search needs
+
+put-operator-requires : tie.Need-put-operator-requires
+put-operator-requires c κs = search needs
+
+enum-told-2 : tie.Need-enum-told-2
+enum-told-2 c = search needs
+
+enum-told-3 : tie.Need-enum-told-3
+enum-told-3 c = search needs
+
+same-length : tie.Need-same-length
+same-length c = search needs
+
+returns : tie.Need-returns
+returns c = rw (c .before .before .before .before .enum-told .given .1) (put-line (Ld True) (c .before .before .put-operator .ensures))
+
+returns-2 : tie.Need-returns-2
+returns-2 c = rw (c .enum-told2 .given .1) (put-nil _ _ (omega arith) (omega arith))
+
+returns-3 : tie.Need-returns-3
+returns-3 c = rw (c .enum-told3 .given .1) (put-nil _ _ (omega arith) (omega arith))
+
+pub put-true-spec : {M : Type 1} → statement M
+put-true-spec =
+    tie.close
+    (tie.spec
+    enum-told
+    put-operator-requires
+    enum-told-2
+    enum-told-3
+    same-length
+    returns
+    returns-2
+    returns-3)

@@ -1,0 +1,79 @@
+-- What a writer of tests or stores leaves: their lines, and how the next one will be written.
+use mathlib.Core.Path.{_≡_}
+use mathlib.Core.Bool.{Bool, cond}
+use mathlib.Core.List.{List, [], _∷_, flatMap}
+use Prim.Native.Nat.{ℕ, _+_}
+use lib.IntN.{natAbs}
+use Rattle.meaning.specs.Rows.{table}
+use Rattle.meaning.specs.Tables.{Tables, literal}
+use Rattle.meaning.specs.Literals.{kindOf, wanted}
+use Rattle.meaning.specs.Rules.{Rules}
+use Rattle.meaning.specs.Programs.{Test, loadOf, andOf}
+use Rattle.meaning.specs.Written.{kindTest}
+use Rattle.meaning.specs.declared.Operand.{Operand}
+use Rattle.meaning.specs.declared.Operand.the-variants.{Mx, True}
+use Rattle.meaning.specs.declared.Operator.{Operator}
+use Rattle.meaning.specs.declared.Operator.the-variants.{Ld, S, R}
+use Rattle.format.specs.Text.{line, operatorText}
+use Rattle.layout.specs.Laid.{LaidOut}
+use Rattle.layout.specs.declared.Layout.{Layout}
+use Rattle.lines.specs.Put.{Put}
+use Rattle.bits.specs.declared.Way.{Way}
+use Rattle.bits.specs.declared.Way.the-variants.{First, More, Store}
+use Rattle.bits.specs.declared.Spot.{Spot}
+
+-- the lines of some instructions
+unfoldable pub lines : List Operator → List ℕ
+lines is = flatMap (λ i. line (operatorText i)) is
+
+abbrev pub test : Bool → Operand → Test
+test w o = record { wanted = w; operand = o }
+
+-- what asks for an operand to be on or off: the first line of a body, a later one, or a store
+abbrev pub operatorAt : Way → Test → Operator
+operatorAt First t = loadOf t
+operatorAt More t = andOf t
+operatorAt Store t = cond (t .wanted) (S (t .operand)) (R (t .operand))
+
+abbrev pub next : Way → Way
+next First = More
+next More = More
+next Store = Store
+
+unfoldable pub operatorsAt : Way → List Test → List Operator
+operatorsAt y [] = []
+operatorsAt y (t ∷ ts) = operatorAt y t ∷ operatorsAt (next y) ts
+
+unfoldable pub after : Way → List Test → Way
+after y [] = y
+after y (t ∷ ts) = after (next y) ts
+
+pub record Sent (l : List ℕ) (p : Spot) (ts : List Test) (m : List ℕ) (q : Spot) : Type 0 where
+  pub put : Put l (p .at) (lines (operatorsAt (p .way) ts)) m (q .at)
+  pub way : q .way ≡ after (p .way) ts
+
+-- "with no bits and no literals LD TRUE"
+abbrev pub orTrue : Way → List Operator
+orTrue First = Ld True ∷ []
+orTrue More = []
+orTrue Store = []
+
+-- flip-flop b, of those that start at a base
+abbrev pub bitAt : ℕ → Bool → ℕ → Test
+bitAt base w b = test w (Mx (base + b))
+
+-- a test is on a flip-flop, a store on its working copy
+abbrev pub baseOf : ℕ → Way → ℕ
+baseOf total First = 0
+baseOf total More = 0
+baseOf total Store = total
+
+-- the tests of the first n literal places of move i
+unfoldable pub literalsTo : Tables → ℕ → ℕ → List Test
+literalsTo c i n = flatMap (λ z. kindTest c (wanted z) (kindOf (natAbs z))) (table (literal c i) 0 n)
+
+-- tables with these states and this layout, that keep the rules
+pub record Drawn (c : Tables) (ss : List ℕ) (l : Layout) : Type 0 where
+  pub states : c .states ≡ ss
+  pub laid : LaidOut c l
+  pub rules : Rules c

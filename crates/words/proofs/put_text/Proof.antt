@@ -1,0 +1,37 @@
+use Rattle.words.specs.ByWords.{wordsText}
+use Rattle.lines.specs.Put.{put-put}
+use mathlib.Core.List.{append-assoc}
+use Rattle.format.specs.Text.{bytes, line}
+use borrow.Author.Needs.{needs}
+use Rattle.words.proofs.put_text.Statement.{statement}
+use Rattle.words.proofs.put_text.Tie as tie
+use Rattle.words.proofs.put_text.Reads as reads
+use Rattle.words.proofs.put_text.Lts as lts
+use Rattle.lines.proofs.put_end.Reads as put-end-reads
+use Rattle.lines.proofs.put_head.Reads as put-head-reads
+use Rattle.words.proofs.put_words.Reads as put-words-reads
+
+-- src/lib.rt:53:9
+put-head-requires : tie.Need-put-head-requires
+put-head-requires c κs = search needs
+
+-- src/lib.rt:54:9
+put-words-requires : tie.Need-put-words-requires
+put-words-requires c κs = search needs
+
+-- src/lib.rt:55:5
+put-end-requires : tie.Need-put-end-requires
+put-end-requires c κs = search needs
+
+-- src/lib.rt:50:1
+same-length : tie.Need-same-length
+same-length c = search needs
+
+-- src/lib.rt:50:1
+returns : tie.Need-returns
+unfolding wordsText
+returns c = rw (← append-assoc (line (bytes "PROGRAM CHART"))) (put-put (c .before .before .before .before .before .before .before .before .before .before .put-head .ensures) (put-put (c .before .before .before .before .before .before .put-words .ensures) (c .before .before .put-end .ensures)))
+
+pub put-text-spec : {M : Type 1} → statement M
+put-text-spec =
+    tie.close (tie.spec put-head-requires put-words-requires put-end-requires same-length returns)

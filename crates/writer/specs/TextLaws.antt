@@ -1,0 +1,113 @@
+-- The text of a chart from its parts.
+use mathlib.Core.Path.{_≡_, refl, sym, subst, ap, ap₂, _∙_}
+use mathlib.Core.List.{List, [], _∷_, _++_, flatMap, append-nil, append-assoc}
+use Prim.Native.Nat.{ℕ, zero, suc, _+_, _-_, _≤_, _<_}
+use native.Mathlib.Omega.{arith}
+use lib.ListN.{length, getD}
+use Rattle.meaning.specs.Rows.{table}
+use Rattle.meaning.specs.RowsLaws.{rows-snoc, flatMap-append}
+use Rattle.meaning.specs.Tables.{Tables, preset, moveCount, timerCount}
+use Rattle.meaning.specs.Layout.{flipFlops}
+use Rattle.meaning.specs.Programs.{Rung, TimerRung, bodyOf, rungOf, timerRungOf, timerRungsFrom, instructions}
+use Rattle.meaning.specs.ProgramLaws.{program-blocks}
+use Rattle.meaning.specs.Rules.{Rules}
+use Rattle.meaning.specs.Written.{pairsBody, timerRung, rungWith, moveRungs, copyRungs, outputRungs, program}
+use Rattle.meaning.specs.declared.Operand.the-variants.{Qx}
+use Rattle.meaning.specs.declared.Operator.{Operator}
+use Rattle.meaning.specs.declared.Operator.the-variants.{St}
+use Rattle.format.specs.Text.{bytes, line, declarations, text, operatorText}
+use Rattle.format.specs.Printed.{chartText}
+use Rattle.lines.specs.Put.{Put, put-put}
+use Rattle.bits.specs.Sent.{lines}
+use Rattle.bits.specs.SentLaws.{put-lines}
+use Rattle.rungs.specs.Pairs.{Pairs}
+use Rattle.rungs.specs.Rungs.{callOf}
+use Rattle.writer.specs.Wrote.{timersTo, movesTo, copiesTo, outputsTo}
+
+-- ---- one more
+
+pub timers-snoc : (c : Tables) (n : ℕ) → timersTo c (suc n) ≡ timersTo c n ++ timerRungOf (1 + n) (timerRung c (1 + n))
+unfolding timersTo
+timers-snoc c n = rows-snoc (λ t. timerRungOf t (timerRung c t)) 1 n
+
+pub moves-snoc : (c : Tables) (n : ℕ) → movesTo c (suc n) ≡ movesTo c n ++ flatMap rungOf (moveRungs c (0 + n))
+unfolding movesTo
+moves-snoc c n = rows-snoc (λ i. flatMap rungOf (moveRungs c i)) 0 n
+
+pub copies-snoc : (c : Tables) (n : ℕ) → copiesTo c (suc n) ≡ copiesTo c n ++ flatMap rungOf (copyRungs c (0 + n))
+unfolding copiesTo
+copies-snoc c n = rows-snoc (λ b. flatMap rungOf (copyRungs c b)) 0 n
+
+pub outputs-snoc : (c : Tables) (n : ℕ) → outputsTo c (suc n) ≡ outputsTo c n ++ flatMap rungOf (outputRungs c (1 + n))
+unfolding outputsTo
+outputs-snoc c n = rows-snoc (λ o. flatMap rungOf (outputRungs c o)) 1 n
+
+pub preset-at : (c : Tables) (l : List ℕ) (n : ℕ) → c .presets ≡ l → getD l n 0 ≡ preset c (n + 1)
+unfolding preset
+preset-at c l n e = let z : n + 1 - 1 ≡ n = omega arith in rw (z, e)
+
+pub timer-count : (c : Tables) (l : List ℕ) → c .presets ≡ l → timerCount c ≡ length l
+unfolding timerCount
+timer-count c l e = ap length e
+
+-- ---- rungs
+
+module _ (c : Tables) (ps : List ℕ) where
+  pub timer-pairs : Rules c → c .timerPairs ≡ ps → Pairs c (timerCount c) ps
+  timer-pairs R e = subst (λ l. Pairs c (timerCount c) l) e (R .timerPairs)
+
+  pub output-pairs : Rules c → c .outputPairs ≡ ps → Pairs c (c .outputs) ps
+  output-pairs R e = subst (λ l. Pairs c (c .outputs) l) e (R .outputPairs)
+
+  pub timer-lines : (n time : ℕ) → c .timerPairs ≡ ps → time ≡ preset c n → bodyOf (pairsBody c ps n) ++ callOf n time ≡ timerRungOf n (timerRung c n)
+  unfolding timerRungOf timerRung
+  timer-lines n time e t = ap₂ (λ l x. bodyOf (pairsBody c l n) ++ callOf n x) (sym e) t
+
+  pub output-lines : (o : ℕ) → c .outputPairs ≡ ps → bodyOf (pairsBody c ps o) ++ (St (Qx o) ∷ []) ≡ flatMap rungOf (outputRungs c o)
+  unfolding flatMap outputRungs rungWith rungOf
+  output-lines o e = ap (λ l. bodyOf (pairsBody c l o) ++ (St (Qx o) ∷ [])) (sym e) ∙ sym (append-nil _)
+
+-- ---- the whole
+
+rungs-in : (f : ℕ → List Rung) (is : List ℕ) → flatMap rungOf (flatMap f is) ≡ flatMap (λ i. flatMap rungOf (f i)) is
+unfolding flatMap
+rungs-in f [] = refl
+rungs-in f (i ∷ is) = flatMap-append rungOf (f i) (flatMap f is) ∙ ap (λ l. flatMap rungOf (f i) ++ l) (rungs-in f is)
+
+timers-in : (c : Tables) (k n : ℕ) → timerRungsFrom k (table (timerRung c) k n) ≡ flatMap (λ t. timerRungOf t (timerRung c t)) (table (λ t. t) k n)
+unfolding flatMap table timerRungsFrom
+timers-in c k zero = refl
+timers-in c k (suc n) = ap (λ l. timerRungOf k (timerRung c k) ++ l) (timers-in c (suc k) n)
+
+parts : (c : Tables) → instructions (program c) ≡ timersTo c (timerCount c) ++ (movesTo c (moveCount c) ++ (copiesTo c (flipFlops c) ++ outputsTo c (c .outputs)))
+unfolding instructions program timersTo movesTo copiesTo outputsTo
+parts c =
+    let ms = flatMap (moveRungs c) (table (λ i. i) 0 (moveCount c)) in
+    let bs = flatMap (copyRungs c) (table (λ b. b) 0 (flipFlops c)) in
+    let os = flatMap (outputRungs c) (table (λ o. o) 1 (c .outputs)) in
+    ap₂ (λ x y. x ++ y) (timers-in c 1 (timerCount c))
+    (flatMap-append rungOf ms (bs ++ os) ∙ ap₂ (λ x y. x ++ y) (rungs-in (moveRungs c) (table (λ i. i) 0 (moveCount c)))
+    (flatMap-append rungOf bs os ∙ ap₂ (λ x y. x ++ y) (rungs-in (copyRungs c) (table (λ b. b) 0 (flipFlops c))) (rungs-in (outputRungs c) (table (λ o. o) 1 (c .outputs)))))
+
+pub text-parts : (c : Tables) → chartText c ≡ (line (bytes "PROGRAM CHART") ++ declarations (timerCount c))
+    ++ (lines (timersTo c (timerCount c) ++ (movesTo c (moveCount c) ++ (copiesTo c (flipFlops c) ++ outputsTo c (c .outputs)))) ++ line (bytes "END_PROGRAM"))
+unfolding chartText text lines
+text-parts c =
+    rw (program-blocks c, parts c) (sym (append-assoc (line (bytes "PROGRAM CHART")) (declarations (timerCount c)) _))
+
+-- the parts in a row, of n outputs and d timers
+pub text-put : (c : Tables) (n d : ℕ) → c .outputs ≡ n → timerCount c ≡ d → {l m₁ m₂ m₃ m₄ m₅ m : List ℕ} {p₁ p₂ p₃ p₄ p₅ r : ℕ}
+    → Put l 0 (line (bytes "PROGRAM CHART") ++ declarations d) m₁ p₁
+    → Put m₁ p₁ (lines (timersTo c (timerCount c))) m₂ p₂
+    → Put m₂ p₂ (lines (movesTo c (moveCount c))) m₃ p₃
+    → Put m₃ p₃ (lines (copiesTo c (flipFlops c))) m₄ p₄
+    → Put m₄ p₄ (lines (outputsTo c n)) m₅ p₅
+    → Put m₅ p₅ (line (bytes "END_PROGRAM")) m r
+    → Put l 0 (chartText c) m r
+text-put c n d e f {l} {m₁} {m₄ = m₄} {m₅} {p₁ = p₁} {p₄ = p₄} {p₅} h t v w o x =
+    let head = subst (λ k. Put l 0 (line (bytes "PROGRAM CHART") ++ declarations k) m₁ p₁) (sym f) h in
+    let last = subst (λ k. Put m₄ p₄ (lines (outputsTo c k)) m₅ p₅) (sym e) o in
+    let cs = copiesTo c (flipFlops c) in
+    let ms = movesTo c (moveCount c) in
+    let os = outputsTo c (c .outputs) in
+    rw (text-parts c) (put-put head (put-put (put-lines (timersTo c (timerCount c)) (ms ++ (cs ++ os)) t (put-lines ms (cs ++ os) v (put-lines cs os w last))) x))
