@@ -7,6 +7,13 @@ use Rattle.lent.specs.declared.Ran.{Ran}
 use Rattle.lent.specs.declared.Ran.the-variants.{Done, Refused}
 use Rattle.meaning.specs.declared.Verdict.the-variants as G
 use Rattle.meaning.specs.Refusals.{numberOf, placeOf}
+use Rattle.meaning.specs.Tables.{Tables}
+use Rattle.meaning.specs.Check.{verdict}
+use Rattle.meaning.specs.Lent.{lentLength}
+use Rattle.reader.specs.declared.Answer.{Answer as ReadAnswer}
+use Rattle.reader.specs.declared.Answer.the-variants as D
+use Rattle.writer.specs.declared.Written.{Written as Text}
+use Rattle.writer.specs.declared.Written.the-variants as T
 use Rattle.words.specs.declared.Written.{Written}
 use Rattle.words.specs.declared.Written.the-variants as W
 use Rattle.words.specs.declared.Sizes.{Sizes}
@@ -46,3 +53,19 @@ pub record SizesGiven (n p f b : ℕ) (a : Controller) : Type 0 where
 abbrev pub SizesTell : Sizes → Controller → Type 0
 SizesTell (S.Controller f b) a = SizesGiven 0 0 f b a
 SizesTell (S.Refused r) a = SizesGiven (numberOf r) (placeOf r) 0 0 a
+
+abbrev pub TextTold : Text → Answer → Type 0
+TextTold (T.Wrote n) a = Told G.Accepted n a
+TextTold (T.Refused r) a = Told (G.Refused r) 0 a
+
+-- the length of a chart state, where the tables are accepted
+abbrev pub lengthFor : Tables → Verdict → ℕ
+lengthFor c G.Accepted = lentLength c
+lengthFor c (G.Refused r) = 0
+
+abbrev pub LengthTold : Tables → Answer → Type 0
+LengthTold c a = Told (verdict c) (lengthFor c (verdict c)) a
+
+abbrev pub ReadTold : ReadAnswer → Answer → Type 0
+ReadTold (D.Read n) a = Told G.Accepted n a
+ReadTold (D.Refused r) a = Told (G.Refused r) 0 a

@@ -12,6 +12,11 @@ ghost use Rattle.tables.specs.Given.{tablesOf};
 ghost use Rattle.runs.specs.Runs.{ChartRan};
 ghost use Rattle.lent.specs.declared.Ran.{Ran};
 ghost use Rattle.capi.specs.Answers.{Told, RanTold, WrittenTold, SizesTell};
+ghost use Rattle.translate.specs.Texts.{ChartWritten};
+ghost use Rattle.writer.specs.declared.Written.{Written as Text};
+ghost use Rattle.capi.specs.Answers.{TextTold, LengthTold, ReadTold};
+ghost use Rattle.reader.specs.Reads.{TextRead};
+ghost use Rattle.reader.specs.declared.Answer.{Answer as ReadAnswer};
 ghost use Rattle.words.specs.Answers.{WordsWritten, SizesTold};
 ghost use Rattle.words.specs.declared.Written.{Written};
 ghost use Rattle.words.specs.declared.Sizes.{Sizes};
@@ -175,4 +180,100 @@ pub extern "C" fn splicetuck_sizes_of(words: &[u32]) -> Controller
     ensures { λ a. ⌜ ((s : Sizes) × SizesTold (now (words .entry)) s × SizesTell s a) ⌝ }
 {
     tell_sizes(words::sizes_of(words))
+}
+
+fn tell_text(w: writer::Written) -> Answer
+    ensures { λ a. ⌜ TextTold w a ⌝ }
+{
+    match w {
+        writer::Written::Wrote(n) => Answer {
+            number: 0,
+            place: 0,
+            length: n,
+        },
+        writer::Written::Refused(r) => refused(r),
+    }
+}
+
+// The text of a chart: refusals 1 to 11, ROOM.
+#[no_mangle]
+pub extern "C" fn splicetuck_write(
+    step: u32,
+    inputs: u32,
+    outputs: u32,
+    states: &[u16],
+    moves: &[i16],
+    presets: &[u32],
+    timer_pairs: &[u16],
+    output_pairs: &[u16],
+    text: &mut [u8],
+) -> Answer
+    ensures { λ a. ⌜ ((w : Text) × ChartWritten (tablesOf (record { step = step; inputs = inputs; outputs = outputs }) (now (states .entry)) (now (moves .entry)) (now (presets .entry)) (now («timer_pairs» .entry)) (now («output_pairs» .entry)))
+        (now (text .entry)) w (now (text .exit)) × TextTold w a) ⌝ }
+{
+    let chart = Chart {
+        step: step,
+        inputs: inputs,
+        outputs: outputs,
+    };
+    tell_text(translate::write(
+        chart,
+        states,
+        moves,
+        presets,
+        timer_pairs,
+        output_pairs,
+        text,
+    ))
+}
+
+// How many numbers a chart state has: refusals 1 to 11.
+#[no_mangle]
+pub extern "C" fn splicetuck_state_length(
+    step: u32,
+    inputs: u32,
+    outputs: u32,
+    states: &[u16],
+    moves: &[i16],
+    presets: &[u32],
+    timer_pairs: &[u16],
+    output_pairs: &[u16],
+) -> Answer
+    ensures { λ a. ⌜ LengthTold (tablesOf (record { step = step; inputs = inputs; outputs = outputs }) (now (states .entry)) (now (moves .entry)) (now (presets .entry)) (now («timer_pairs» .entry)) (now («output_pairs» .entry))) a ⌝ }
+{
+    let chart = Chart {
+        step: step,
+        inputs: inputs,
+        outputs: outputs,
+    };
+    let v = chart::check(chart, states, moves, presets, timer_pairs, output_pairs);
+    match v {
+        Verdict::Refused(r) => refused(r),
+        Verdict::Accepted => Answer {
+            number: 0,
+            place: 0,
+            length: lent::state_length(states, presets),
+        },
+    }
+}
+
+fn tell_read(r: reader::Answer) -> Answer
+    ensures { λ a. ⌜ ReadTold r a ⌝ }
+{
+    match r {
+        reader::Answer::Read(n) => Answer {
+            number: 0,
+            place: 0,
+            length: n,
+        },
+        reader::Answer::Refused(q) => refused(q),
+    }
+}
+
+// The words of a text: refusals TEXT, ROOM.
+#[no_mangle]
+pub extern "C" fn splicetuck_read(text: &[u8], words: &mut [u32]) -> Answer
+    ensures { λ a. ⌜ ((r : ReadAnswer) × TextRead (now (text .entry)) (now (words .entry)) r (now (words .exit)) × ReadTold r a) ⌝ }
+{
+    tell_read(reader::read(text, words))
 }

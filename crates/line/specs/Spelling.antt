@@ -1,0 +1,118 @@
+-- Reading a decimal byte by byte: what is known in front of each byte, and why there may be no decimal.
+use mathlib.Core.Path.{_≡_, refl, sym, ap, ap₂, _∙_}
+use mathlib.Core.Logic.{inl, inr}
+use Prim.Native.Nat.{ℕ, zero, suc, _+_, _*_, _-_, _/_, _%_, _^_, _≤_, _<_}
+use native.Mathlib.Nat.{pow-suc}
+use native.Mathlib.Omega.{arith}
+use native.Mathlib.Decide.{decLe}
+use mathlib.Core.Bool.{false}
+use mathlib.Core.List.{List, [], _∷_, _++_, append-nil, append-assoc}
+use lib.ListN.{length, getD, take, drop, drop-of-length-le}
+use lib.Seq.{take-suc, drop-cons, length-take-le, getD-take}
+use lib.Dec.{ltb}
+use borrow.Author.Tests.{le-leb, ltb-true, ltb-false}
+use Rattle.meaning.specs.RowsLaws.{which}
+use Rattle.meaning.specs.Literals.{between}
+use Rattle.format.specs.Text.{digits, decimal}
+use Rattle.format.specs.Lines.{leading}
+use Rattle.format.specs.LineLaws.{leading-decimal}
+use Rattle.format.specs.DecodeLaws.{within}
+use Rattle.lines.specs.Decimals.{decimal-small, decimal-more}
+
+-- the first i bytes of l are a decimal of n, where i is not 0
+pub record Spelling (l : List ℕ) (i n : ℕ) : Type 0 where
+  pub within : i ≤ length l
+  pub value : leading 0 l ≡ leading n (drop i l)
+  pub start : i ≡ 0 → n ≡ 0
+  pub front : 0 < i → decimal n ≡ take i l
+
+pub spelling-none : (l : List ℕ) → Spelling l 0 0
+spelling-none l = record { within = omega arith; value = refl; start = λ e. refl; front = λ h. absurd (omega arith) }
+
+leading-yes : (n b : ℕ) (r : List ℕ) → 48 ≤ b → b ≤ 57 → leading n (b ∷ r) ≡ leading (10 * n + (b - 48)) r
+unfolding leading
+leading-yes n b r h k = rw (leading, le-leb 48 b h, le-leb b 57 k)
+
+leading-no : (n b : ℕ) (r : List ℕ) → between 48 57 b ≡ false → leading n (b ∷ r) ≡ record { number = n; rest = b ∷ r }
+unfolding leading
+leading-no n b r e = rw (leading, e)
+
+not-between : (b : ℕ) → (48 ≤ b → b ≤ 57 → ⊥) → between 48 57 b ≡ false
+not-between b f = elim (which (between 48 57 b)) [ inl e ↦ (let w = within 48 57 b e in absurd (f (w .0) (w .1))) | inr e ↦ e ]
+
+-- what follows only adds to the number
+leading-grows : (r : List ℕ) (n : ℕ) → n ≤ leading n r .number
+unfolding leading
+leading-grows [] n = omega arith
+leading-grows (b ∷ r) n = elim (which (between 48 57 b)) [
+  | inl e ↦ rw (leading, e) (omega (arith, leading-grows r (10 * n + (b - 48))))
+  | inr e ↦ rw (leading, e) (omega arith)
+]
+
+decimal-next : (n d : ℕ) → 1 ≤ n → n ≤ 86400000 → d < 10 → decimal (10 * n + d) ≡ decimal n ++ ((48 + d) ∷ [])
+decimal-next n d h k f =
+    let e : (10 * n + d) / 10 ≡ n = omega arith in
+    let g : (10 * n + d) % 10 ≡ d = omega arith in
+    rw (e, g) at (decimal-more (10 * n + d) (omega arith) (omega arith))
+
+first-zero : (k m : ℕ) (r : List ℕ) → m < 10 ^ suc k → getD (digits k m ++ r) 0 0 ≡ 48 → m ≡ 0
+unfolding digits
+first-zero zero m r h e = omega arith
+first-zero (suc k) m r h e = elim (which (ltb m 10)) [
+  | inl f ↦ (let g : 48 + m % 10 ≡ 48 = rw (digits, f) at e in omega (arith, ltb-true m 10 f))
+  | inr f ↦ (let g : getD (digits k (m / 10) ++ ((48 + m % 10) ∷ r)) 0 0 ≡ 48 = rw append-assoc at (rw (digits, f) at e) in
+      absurd (omega (arith, first-zero k (m / 10) ((48 + m % 10) ∷ r) (omega (arith, pow-suc 10 (suc k))) g, ltb-false m 10 f)))
+]
+
+-- "Numbers have no leading zero."
+no-leading-zero : (m : ℕ) → m ≤ 86400000 → getD (decimal m) 0 0 ≡ 48 → m ≡ 0
+unfolding decimal
+no-leading-zero m h e = first-zero 19 m [] (omega arith) (ap (λ l. getD l 0 0) (append-nil (digits 19 m)) ∙ e)
+
+module _ {l : List ℕ} {i n : ℕ} (s : Spelling l i n) where
+  -- what a decimal of m would be
+  spelt : (m : ℕ) → m ≤ 86400000 → decimal m ≡ l → leading n (drop i l) ≡ record { number = m; rest = [] }
+  unfolding leading
+  spelt m h e = sym (s .value) ∙ ap (leading 0) (sym e ∙ sym (append-nil (decimal m))) ∙ leading-decimal m [] (omega arith)
+
+  pub spelt-all : length l ≤ i → (m : ℕ) → m ≤ 86400000 → decimal m ≡ l → m ≡ n
+  unfolding leading
+  spelt-all k m h e = sym (ap (λ x. x .number) (ap (leading n) (sym (drop-of-length-le l k)) ∙ spelt m h e))
+
+  -- the number is beyond already
+  pub too-large : (m : ℕ) → m ≤ 86400000 → m < n → decimal m ≡ l → ⊥
+  too-large m h k e = omega (arith, leading-grows (drop i l) n, ap (λ x. x .number) (spelt m h e))
+
+  -- no byte at all
+  pub no-bytes : length l ≤ i → i ≡ 0 → (m : ℕ) → m ≤ 86400000 → decimal m ≡ l → ⊥
+  no-bytes k z m h e =
+      let f : m ≡ 0 = spelt-all k m h e ∙ s .start z in
+      omega (arith, ap length (sym (ap decimal f ∙ decimal-small 0 (omega arith)) ∙ e))
+
+  module _ (h : i < length l) where
+    pub spelling-more : 48 ≤ getD l i 0 → getD l i 0 ≤ 57 → (0 < i → 1 ≤ n) → n ≤ 86400000 → Spelling l (suc i) (10 * n + (getD l i 0 - 48))
+    spelling-more p q z k = record {
+      within = h;
+      value = s .value ∙ ap (leading n) (drop-cons l i 0 h) ∙ leading-yes n (getD l i 0) (drop (suc i) l) p q;
+      start = λ e. absurd (omega arith);
+      front = λ f. elim (decLe 1 i) [
+        | yes g ↦ decimal-next n (getD l i 0 - 48) (z g) k (omega arith) ∙ ap₂ (λ x y. x ++ (y ∷ [])) (s .front g) back ∙ sym (take-suc l i 0 h)
+        | no g ↦ (let y : i ≡ 0 = omega arith in
+            let w : 10 * n + (getD l i 0 - 48) ≡ getD l i 0 - 48 = omega (arith, s .start y) in
+            ap decimal w ∙ decimal-small (getD l i 0 - 48) (omega arith) ∙ ap (λ x. x ∷ []) back ∙ sym (take-suc l i 0 h ∙ ap (λ j. take j l ++ (getD l i 0 ∷ [])) y))
+      ];
+    }
+      where
+        back : 48 + (getD l i 0 - 48) ≡ getD l i 0
+        back = omega arith
+
+    -- a byte that is no digit
+    pub no-digit : (48 ≤ getD l i 0 → getD l i 0 ≤ 57 → ⊥) → (m : ℕ) → m ≤ 86400000 → decimal m ≡ l → ⊥
+    no-digit b m k e = omega (arith, ap (λ x. length (x .rest)) (sym (ap (leading n) (drop-cons l i 0 h) ∙ leading-no n (getD l i 0) (drop (suc i) l) (not-between _ b)) ∙ spelt m k e))
+
+    -- a digit behind a zero
+    pub no-zero : 0 < i → n ≡ 0 → (m : ℕ) → m ≤ 86400000 → decimal m ≡ l → ⊥
+    no-zero p z m k e =
+        let d : take i l ≡ 48 ∷ [] = sym (s .front p) ∙ ap decimal z ∙ decimal-small 0 (omega arith) in
+        let f : getD (decimal m) 0 0 ≡ 48 = ap (λ x. getD x 0 0) e ∙ sym (getD-take i l 0 0 p) ∙ ap (λ x. getD x 0 0) d in
+        omega (arith, ap length d, length-take-le i l (s .within), ap length (sym (ap decimal (no-leading-zero m k f) ∙ decimal-small 0 (omega arith)) ∙ e))

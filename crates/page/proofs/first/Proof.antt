@@ -1,0 +1,19 @@
+use Rattle.format.specs.Lines.{firstPage}
+use borrow.Author.Needs.{needs}
+use Rattle.page.proofs.first.Statement.{statement}
+use Rattle.page.proofs.first.Tie as tie
+use Rattle.page.proofs.first.Reads as reads
+use Rattle.page.proofs.first.Lts as lts
+use Rattle.phases.proofs.begin.Reads as begin-reads
+
+-- src/lib.rt:141:9
+begin-requires : tie.Need-begin-requires
+begin-requires c κs = search needs
+
+-- src/lib.rt:138:1
+returns : tie.Need-returns
+unfolding firstPage
+returns c = rw (c .begin .ensures)
+
+pub first-spec : {M : Type 1} → statement M
+first-spec = tie.close (tie.spec begin-requires returns)

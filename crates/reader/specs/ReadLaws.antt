@@ -1,0 +1,245 @@
+-- What the loop over the lines keeps, and that a text has one answer only.
+use mathlib.Core.Path.{_≡_, refl, sym, ap, ap₂, _∙_}
+use mathlib.Core.Logic.{inl, inr}
+use Prim.Native.Nat.{ℕ, suc, _+_, _-_, _%_, _≤_, _<_, min}
+use native.Mathlib.Nat.{add-zero, zero-add, add-suc, suc-add}
+use native.Mathlib.Numerals.{add-one}
+use native.Mathlib.Omega.{arith}
+use mathlib.Core.Bool.{true, false, false≢true}
+use mathlib.Core.List.{List, [], _∷_, _++_, map, flatMap, append-assoc, append-nil}
+use lib.ListN.{length, getD, take, drop, set, length-append, take-append-drop, length-map}
+use lib.Seq.{slice, sets, take-suc, take-take, take-add, drop-at, length-take-le, length-sets, sets-eq}
+use Rattle.meaning.specs.RowsLaws.{and-both}
+use Rattle.meaning.specs.Programs.{instructions, all, carried}
+use Rattle.meaning.specs.Tables.{mostPreset}
+use Rattle.meaning.specs.Calls.{overlaid}
+use Rattle.meaning.specs.declared.Operator.{Operator}
+use Rattle.meaning.specs.declared.Operator.the-variants.{Ld, Ldn, And, Andn, Or, Close, St, S, R, Cal, LdTime}
+use Rattle.meaning.specs.declared.Refusal.{Refusal}
+use Rattle.meaning.specs.declared.Refusal.the-variants.{Room, Text}
+use Rattle.format.specs.declared.Line.{Line}
+use Rattle.format.specs.declared.Line.the-variants.{Header, Var, Block, EndVar, Says, EndProgram, Unknown}
+use Rattle.format.specs.declared.Page.{Page}
+use Rattle.format.specs.Words.{word, words}
+use Rattle.format.specs.Text.{line}
+use Rattle.format.specs.Places.{TextPlace, WholeLines, room}
+use Rattle.format.specs.Text.{AcceptedText}
+use Rattle.format.specs.Decode.{instruction}
+use Rattle.format.specs.DecodeLaws.{operand-small, carried-fits, within}
+use Rattle.format.specs.Lines.{lineFits, said, firstPage, turn, afterLines}
+use Rattle.format.specs.LineLaws.{all-append, oneLine, said-fits}
+use Rattle.format.specs.Pages.{standing, over}
+use Rattle.format.specs.WordLaws.{place-same}
+use Rattle.format.specs.TextLaws.{lines-append, afterLines-append, spoken, text-same}
+use Rattle.format.specs.TextReader.{Taken, taken-refused, taken-unfinished, taken-over, slice-one-line, drop-one-line}
+use Rattle.reader.specs.declared.Answer.{Answer}
+use Rattle.reader.specs.declared.Answer.the-variants as Out
+use Rattle.reader.specs.Reads.{TextRead, reads, cramped, refuses, LineEnd, counted, placed, Passed, Stopped, Pass}
+
+-- ---- words
+
+-- an instruction's word has 32 bits
+word-small : (i : Operator) → instruction i ≡ true → word i < 4294967296
+unfolding word carried instruction
+word-small (Ld o) f = omega (arith, operand-small o (carried-fits (Ld o) f))
+word-small (Ldn o) f = omega (arith, operand-small o (carried-fits (Ldn o) f))
+word-small (And o) f = omega (arith, operand-small o (carried-fits (And o) f))
+word-small (Andn o) f = omega (arith, operand-small o (carried-fits (Andn o) f))
+word-small Or f = omega arith
+word-small Close f = omega arith
+word-small (St o) f = omega (arith, operand-small o (carried-fits (St o) f))
+word-small (S o) f = omega (arith, operand-small o (carried-fits (S o) f))
+word-small (R o) f = omega (arith, operand-small o (carried-fits (R o) f))
+word-small (Cal o) f = omega (arith, operand-small o (carried-fits (Cal o) f))
+word-small (LdTime n) f = omega (arith, within 1 mostPreset n f .1)
+
+sets-more : (v l : List ℕ) (i b : ℕ) → sets l i (v ++ (b ∷ [])) ≡ set (sets l i v) (i + length v) b
+sets-more [] l i b = rw add-zero
+sets-more (x ∷ v) l i b = rw (add-suc i (length v), ← suc-add i (length v)) (sets-more v (set l i x) (suc i) b)
+
+-- the words of the instructions, over the slice
+abbrev written : List ℕ → List Operator → List ℕ
+written entry is = sets entry 0 (map word is)
+
+map-more : (is : List Operator) (i : Operator) → map word (is ++ (i ∷ [])) ≡ map word is ++ (word i ∷ [])
+map-more [] i = refl
+map-more (j ∷ is) i = ap (λ l. word j ∷ l) (map-more is i)
+
+written-more : (entry : List ℕ) (is : List Operator) (i : Operator) → instruction i ≡ true → set (written entry is) (length is) (word i % 4294967296) ≡ written entry (is ++ (i ∷ []))
+written-more entry is i f =
+    let e : word i % 4294967296 ≡ word i = (let h = word-small i f in omega arith) in
+    rw (e, map-more, sets-more, zero-add, length-map)
+
+-- one line more
+record Says1 (entry : List ℕ) (is : List Operator) (t : Line) : Type 0 where
+  count : counted (length is) t ≡ length (is ++ spoken (t ∷ []))
+  list : placed (written entry is) (length is) t ≡ written entry (is ++ spoken (t ∷ []))
+
+counted-few : (n : ℕ) (t : Line) → counted n t ≤ n + 1
+counted-few n Header = omega arith
+counted-few n Var = omega arith
+counted-few n (Block k) = omega arith
+counted-few n EndVar = omega arith
+counted-few n (Says i) = omega arith
+counted-few n EndProgram = omega arith
+counted-few n Unknown = omega arith
+
+says-nothing : (entry : List ℕ) (is : List Operator) → (length is ≡ length (is ++ [])) × (written entry is ≡ written entry (is ++ []))
+says-nothing entry is = rw append-nil (refl, refl)
+
+says-one : (entry : List ℕ) (is : List Operator) (t : Line) → lineFits t ≡ true → Says1 entry is t
+unfolding lineFits spoken
+says-one entry is Header f = record { count = says-nothing entry is .0; list = says-nothing entry is .1 }
+says-one entry is Var f = record { count = says-nothing entry is .0; list = says-nothing entry is .1 }
+says-one entry is (Block n) f = record { count = says-nothing entry is .0; list = says-nothing entry is .1 }
+says-one entry is EndVar f = record { count = says-nothing entry is .0; list = says-nothing entry is .1 }
+says-one entry is (Says i) f = record { count = (let n = length-append is (i ∷ []) in omega arith); list = written-more entry is i f }
+says-one entry is EndProgram f = record { count = says-nothing entry is .0; list = says-nothing entry is .1 }
+says-one entry is Unknown f = absurd (false≢true f)
+
+spoken-more : (ts : List Line) (t : Line) → spoken (ts ++ (t ∷ [])) ≡ spoken ts ++ spoken (t ∷ [])
+unfolding spoken
+spoken-more [] t = refl
+spoken-more (Header ∷ ts) t = spoken-more ts t
+spoken-more (Var ∷ ts) t = spoken-more ts t
+spoken-more (Block n ∷ ts) t = spoken-more ts t
+spoken-more (EndVar ∷ ts) t = spoken-more ts t
+spoken-more (Says i ∷ ts) t = ap (λ l. i ∷ l) (spoken-more ts t)
+spoken-more (EndProgram ∷ ts) t = spoken-more ts t
+spoken-more (Unknown ∷ ts) t = spoken-more ts t
+
+said-more : (ls : List (List ℕ)) (x : List ℕ) → map said (ls ++ (x ∷ [])) ≡ map said ls ++ (said x ∷ [])
+said-more [] x = refl
+said-more (l ∷ ls) x = ap (λ ts. said l ∷ ts) (said-more ls x)
+
+-- ---- the loop
+
+-- the first b bytes of l are lines, they lead to page s, and the words of their n instructions stand in o
+pub record Passing (l entry : List ℕ) (b : ℕ) (s : Page) (n : ℕ) (o : List ℕ) : Type 0 where
+  pub taken : Taken l b s
+  pub few : n ≤ b
+  pub count : n ≡ length (spoken (map said (taken .lines)))
+  pub list : o ≡ written entry (spoken (map said (taken .lines)))
+
+pub passing-none : (l entry : List ℕ) (s : Page) → s ≡ firstPage → Passing l entry 0 s 0 entry
+unfolding all flatMap afterLines firstPage standing spoken
+passing-none l entry s e = rw e (record { taken = record { lines = []; whole = refl; within = omega arith; lists = refl; page = refl; stands = refl }; few = omega arith; count = refl; list = refl })
+
+standing-fits : (s : Page) (t : Line) (x : List ℕ) → t ≡ said x → standing (turn s t) ≡ true → lineFits t ≡ true
+unfolding turn standing
+standing-fits s t x e a = elim (said-fits x) [ inl u ↦ absurd (false≢true (rw (e ∙ u) at a)) | inr f ↦ rw e f ]
+
+-- a part as the code makes it
+part-slice : (l : List ℕ) (b e : ℕ) → b ≤ e → e ≤ length l → take (e - b) (drop b l) ≡ slice b e l
+part-slice l b e h k =
+    let z : e ≡ b + (e - b) = omega arith in
+    sym (ap (λ j. drop b (take j l)) z ∙ ap (drop b) (take-add b (e - b) l) ∙ drop-at (take b l) (take (e - b) (drop b l)) b (length-take-le b l (omega arith)))
+
+module _ {l entry : List ℕ} {b : ℕ} {s : Page} {n : ℕ} {o : List ℕ} (q : Passing l entry b s n o) where
+  take-line : (e : ℕ) → b ≤ e → e < length l → getD l e 0 ≡ 10 → take (suc e) l ≡ take b l ++ line (slice b e l)
+  unfolding line
+  take-line e h k z =
+      take-suc l e 0 k ∙ ap (λ x. take e l ++ (x ∷ [])) z
+      ∙ ap (λ x. x ++ (10 ∷ [])) (sym (take-append-drop b (take e l)) ∙ ap (λ x. x ++ slice b e l) (take-take b e l h))
+      ∙ append-assoc (take b l) (slice b e l) (10 ∷ [])
+
+  pub passing-length : length o ≡ length entry
+  passing-length = ap length (q .list) ∙ length-sets entry 0 (map word (spoken (map said (q .taken .lines))))
+
+  module _ (e : ℕ) (h : LineEnd l b e) (k : e < length l) (t : Line) (part-t : t ≡ said (take (e - b) (drop b l))) where
+    said-t : t ≡ said (slice b e l)
+    said-t = part-t ∙ ap said (part-slice l b e (h .after) (h .within))
+
+    one-line : oneLine (slice b e l) ≡ true
+    one-line = slice-one-line l b e (h .none)
+
+    goes-on : standing (turn s t) ≡ true → Passing l entry (e + 1) (turn s t) (counted n t) (placed o n t)
+    unfolding all flatMap afterLines
+    goes-on a =
+        let is = spoken (map said (q .taken .lines)) in
+        let m = says-one entry is t (standing-fits s t (slice b e l) said-t a) in
+        let g : is ++ spoken (t ∷ []) ≡ spoken (map said (q .taken .lines ++ (slice b e l ∷ []))) = rw (said-more, spoken-more, said-t) in
+        rw add-one (
+        record {
+          taken = record {
+            lines = q .taken .lines ++ (slice b e l ∷ []);
+            whole = all-append oneLine (q .taken .lines) (slice b e l ∷ []) (q .taken .whole) (and-both _ _ one-line refl);
+            within = k;
+            lists = lines-append (q .taken .lines) (slice b e l ∷ []) ∙ ap₂ _++_ (q .taken .lists) (append-nil (line (slice b e l))) ∙ sym (take-line e (h .after) k (h .lf k));
+            page = afterLines-append (q .taken .lines) (slice b e l ∷ []) firstPage ∙ ap₂ turn (q .taken .page) (sym said-t);
+            stands = a;
+          };
+          few = omega (arith, counted-few n t, q .few, h .after);
+          count = ap (λ j. counted j t) (q .count) ∙ m .count ∙ ap length g;
+          list = ap₂ (λ x j. placed x j t) (q .list) (q .count) ∙ m .list ∙ ap (written entry) g;
+        }
+        )
+
+    pub passing-line : {r : Page} {m : ℕ} {w : List ℕ} → r ≡ turn s t → standing r ≡ true → m ≡ counted n t → w ≡ placed o n t → Passing l entry (e + 1) r m w
+    passing-line f a c d = rw (f, c, d) (goes-on (rw f at a))
+
+    stops-at : standing (turn s t) ≡ false → TextPlace l b
+    stops-at a = taken-refused (q .taken) e (h .after) k (h .lf k) one-line (rw said-t at a)
+
+    pub passing-refused : {r : Page} → r ≡ turn s t → standing r ≡ false → TextPlace l b
+    passing-refused f a = stops-at (rw f at a)
+
+  -- "A last line without LF is one that no text has."
+  pub passing-unfinished : LineEnd l b (length l) → b < length l → TextPlace l b
+  passing-unfinished h k = taken-unfinished (q .taken) (drop-one-line l b (h .none)) (λ e. absurd (omega arith))
+
+  pub passing-short : length l ≤ b → over s ≡ false → TextPlace l b
+  passing-short k a = taken-unfinished (q .taken) (drop-one-line l b (λ i h j e. omega arith)) (λ e. a)
+
+  pub passing-over : length l ≤ b → over s ≡ true → Passed l entry n o
+  unfolding words
+  passing-over k a =
+      let w = q .taken .within in
+      let p = taken-over (q .taken) (omega arith) a in
+      record {
+        program = p .0;
+        fitting = p .1;
+        listing = p .2;
+        count = q .count ∙ ap length (sym (p .3)) ∙ sym (length-map (instructions (p .0)) word);
+        few = omega (arith, q .few);
+        list = q .list ∙ ap (written entry) (sym (p .3));
+      }
+
+-- ---- the answers
+
+pub overlaid-sets : (w entry : List ℕ) → length w ≤ length entry → sets entry 0 w ≡ overlaid w entry
+unfolding overlaid
+overlaid-sets w entry h = sets-eq w entry 0 (omega arith) ∙ rw zero-add
+
+-- "That no second answer is allowed is proved"
+pub text-read-once : {l entry m o : List ℕ} {r q : Answer} → TextRead l entry r m → TextRead l entry q o → (r ≡ q) × (m ≡ o)
+text-read-once {entry = entry} (reads p f e h) (reads q g d k) = let z = text-same p q f g (e ∙ sym d) in (ap (λ x. Out.Read (length (words x))) z, ap (λ x. overlaid (words x) entry) z)
+text-read-once (reads p f e h) (cramped q g d k) = absurd (let z = text-same p q f g (e ∙ sym d) in omega (arith, ap (λ x. length (words x)) z))
+text-read-once (reads p f e h) (refuses k t) = absurd (t .refused (p, f, e))
+text-read-once (cramped p f e h) (reads q g d k) = absurd (let z = text-same p q f g (e ∙ sym d) in omega (arith, ap (λ x. length (words x)) z))
+text-read-once (cramped p f e h) (cramped q g d k) = let z = text-same p q f g (e ∙ sym d) in (ap (λ x. Out.Refused (Room (room (length (words x))))) z, refl)
+text-read-once (cramped p f e h) (refuses k t) = absurd (t .refused (p, f, e))
+text-read-once (refuses k t) (reads p f e h) = absurd (t .refused (p, f, e))
+text-read-once (refuses k t) (cramped p f e h) = absurd (t .refused (p, f, e))
+text-read-once {l} (refuses k t) (refuses j u) = (ap (λ x. Out.Refused (Text x)) (place-same AcceptedText (WholeLines l) l k j t u), refl)
+
+-- what is written into an empty part
+pub empty-part : (w l : List ℕ) → length (w ++ l) ≡ length l → w ++ l ≡ l
+empty-part [] l e = refl
+empty-part (b ∷ w) l e = absurd (let n = length-append w l in omega arith)
+
+pub read-cramped : {l x y : List ℕ} {n : ℕ} (entry : List ℕ) → Passed l x n y → length entry < n → n ≤ 18446744073709551615 → TextRead l entry (Out.Refused (Room n)) entry
+unfolding room
+read-cramped {n = n} entry q h k =
+    let e : n ≡ min (length (words (q .program))) 18446744073709551615 = omega (arith, q .count) in
+    rw e (cramped (q .program) (q .fitting) (q .listing) (omega (arith, q .count)))
+
+pub read-passed : {l x y : List ℕ} {n : ℕ} (entry exit : List ℕ) (r : Answer) → Passed l x n y → n ≤ length entry → Pass l entry r exit → TextRead l entry r exit
+read-passed {n = n} entry exit (Out.Read m) p h q =
+    let z = text-same (p .program) (q .program) (p .fitting) (q .fitting) (p .listing ∙ sym (q .listing)) in
+    let k : length (words (q .program)) ≤ length entry = omega (arith, p .count, ap (λ g. length (words g)) z) in
+    rw (q .count, q .list, overlaid-sets (words (q .program)) entry k) (reads (q .program) (q .fitting) (q .listing) k)
+read-passed entry exit (Out.Refused r) p h q = absurd (q .there .refused (p .program, p .fitting, p .listing))
+
+pub read-stopped : {l : List ℕ} {r : Refusal} (entry : List ℕ) → Stopped l r → TextRead l entry (Out.Refused r) entry
+read-stopped entry s = rw (s .why) (refuses (s .place) (s .there))
