@@ -8,7 +8,7 @@
 #include <stdlib.h>
 
 /* In a run of this size every number that a call can give must be seen. */
-enum { STANDARD_CASES = 20000 };
+enum { STANDARD_CASES = 8000 };
 
 #define CALL(name) extern const struct call compare_##name;
 CALLS
