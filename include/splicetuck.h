@@ -1,5 +1,5 @@
 /* Splicetuck for C: charts (state tables) to Instruction List, instruction words
- * to text and back, and the run of a chart.
+ * to text and back, the run of a chart, and tables from files of records.
  *
  * Of every call:
  * - It can be made with any content of the lent slices; what is not right is
@@ -22,6 +22,7 @@
  *    1 SIZE           5 TIMER PAIR      9 IDLE TIMER    13 TEXT
  *    2 HIERARCHY      6 OUTPUT PAIR    10 OVERLAP       14 STATE
  *    3 INITIAL        7 MOVE           11 FLIP-FLOPS    15 SCANS
+ *                                                       16 FIELD
  * number: 0 when accepted, else the refusal.
  * place:  0 when accepted, else where: the least failing row from 0; of ROOM
  *         the length needed; of TEXT the byte where the first impossible line
@@ -134,5 +135,20 @@ struct splicetuck_answer splicetuck_run_chart(
     const uint64_t *words_in, size_t scans,
     uint16_t *leaves, size_t leaves_len,
     uint64_t *words_out, size_t words_out_len);
+
+/* Reads one of the seven files of records: its bytes as a whole.
+ * kind: 0 frame.csv, 1 states.csv, 2 moves.csv, 3 presets.csv,
+ * 4 timerpairs.csv, 5 outputpairs.csv, 6 scans.csv. A record has 3, 2, 11, 1,
+ * 2, 2 and 1 numbers, of 32, 16, 16 with a sign, 32, 16, 16 and 64 bits.
+ * Refusals: SIZE for any other kind; FIELD with the number of the record from
+ * 0, also 0 for a frame.csv of none, 1 for one of more, and 4,096 for a
+ * scans.csv of more than 4,096; then ROOM with the numbers needed.
+ * Writes the numbers, record after record, to the front of out, a negative
+ * one of moves.csv in 64-bit two's complement: (int64_t)out[i] is the number.
+ * length is how many numbers there are. */
+struct splicetuck_answer splicetuck_read_records(
+    uint32_t kind,
+    const uint8_t *bytes, size_t bytes_len,
+    uint64_t *out, size_t out_len);
 
 #endif

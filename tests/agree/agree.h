@@ -149,6 +149,15 @@ struct text {
 
 struct text any_text(uint32_t damaged);
 
+/* Puts count bytes in the place of `gone` bytes at `at`. */
+void splice_bytes(struct text *x, size_t at, size_t gone, const void *bytes,
+                  size_t count);
+
+/* ---- Random files of records (files.c) ---- */
+
+/* One of the seven files, damaged once in `damaged` times. */
+struct text any_file(enum ref_kind kind, uint32_t damaged);
+
 /* How long a result slice is lent: exactly as needed, too short or too long. */
 size_t any_room(uint64_t needed);
 

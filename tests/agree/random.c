@@ -956,8 +956,8 @@ struct list any_words(uint32_t damaged)
 
 /* ---- Texts ---- */
 
-static void splice_bytes(struct text *x, size_t at, size_t gone,
-                         const void *bytes, size_t count)
+void splice_bytes(struct text *x, size_t at, size_t gone, const void *bytes,
+                  size_t count)
 {
     size_t len = x->len - gone + count, after = x->len - at - gone;
     if (len > x->room) {

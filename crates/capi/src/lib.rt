@@ -1,4 +1,5 @@
 // The product's calls for C: numbers, and slices as a pointer and a length. include/splicetuck.h declares them.
+use file::File;
 use lent::Ran;
 use meaning::Refusal;
 use meaning::Verdict;
@@ -20,6 +21,7 @@ ghost use Rattle.reader.specs.declared.Answer.{Answer as ReadAnswer};
 ghost use Rattle.words.specs.Answers.{WordsWritten, SizesTold};
 ghost use Rattle.words.specs.declared.Written.{Written};
 ghost use Rattle.words.specs.declared.Sizes.{Sizes};
+ghost use Rattle.capi.specs.Files.{fileOf, RecordsTold, KindRead};
 
 // Document 01's number of the answer, its place, and how much was written.
 #[repr(C)]
@@ -276,4 +278,46 @@ pub extern "C" fn splicetuck_read(text: &[u8], words: &mut [u32]) -> Answer
     ensures { λ a. ⌜ ((r : ReadAnswer) × TextRead (now (text .entry)) (now (words .entry)) r (now (words .exit)) × ReadTold r a) ⌝ }
 {
     tell_read(reader::read(text, words))
+}
+
+fn file_of(kind: u32) -> File
+    ensures { λ f. ⌜ f ≡ fileOf kind ⌝ }
+{
+    match kind {
+        0 => File::Frame,
+        1 => File::States,
+        2 => File::Moves,
+        3 => File::Presets,
+        4 => File::TimerPairs,
+        5 => File::OutputPairs,
+        _ => File::Scans,
+    }
+}
+
+fn tell_records(r: file::Answer) -> Answer
+    ensures { λ a. ⌜ RecordsTold r a ⌝ }
+{
+    match r {
+        file::Answer::Numbers {
+            records: _,
+            numbers,
+        } => Answer {
+            number: 0,
+            place: 0,
+            length: numbers,
+        },
+        file::Answer::Refused(q) => refused(q),
+    }
+}
+
+// The numbers of one of the seven files, by its place in the order of the program section: SIZE for a kind above 6,
+// then FIELD, ROOM.
+#[no_mangle]
+pub extern "C" fn splicetuck_read_records(kind: u32, bytes: &[u8], out: &mut [u64]) -> Answer
+    ensures { λ a. ⌜ KindRead kind (now (bytes .entry)) (now (out .entry)) a (now (out .exit)) ⌝ }
+{
+    if 6 < kind {
+        return refused(Refusal::Size);
+    }
+    tell_records(file::read_records(file_of(kind), bytes, out))
 }

@@ -1,0 +1,26 @@
+use mathlib.Core.Path.{refl}
+use borrow.Author.Needs.{needs}
+use Rattle.capi.proofs.tell_records.Statement.{statement}
+use Rattle.capi.proofs.tell_records.Tie as tie
+use Rattle.capi.proofs.tell_records.Reads as reads
+use Rattle.capi.proofs.tell_records.Lts as lts
+use Rattle.capi.proofs.refused.Reads as refused-reads
+
+enum-known-r : tie.Need-enum-known-r
+enum-known-r c = search needs
+
+enum-known-r-2 : tie.Need-enum-known-r-2
+enum-known-r-2 c = search needs
+
+refused-requires : tie.Need-refused-requires
+refused-requires c κs = search needs
+
+returns : tie.Need-returns
+returns c = rw (c .before .r .given .1) (record { number = refl; place = refl; length = refl })
+
+returns-2 : tie.Need-returns-2
+returns-2 c = rw (c .before .before .r2 .given .1) (c .refused .ensures)
+
+pub tell-records-spec : {M : Type 1} → statement M
+tell-records-spec =
+    tie.close (tie.spec enum-known-r enum-known-r-2 refused-requires returns returns-2)

@@ -1,0 +1,92 @@
+-- What the reader of a whole file answers, and what it leaves in the slice.
+use mathlib.Core.Path.{_≡_, sym, _∙_}
+use mathlib.Core.Bool.{Bool, cond}
+use mathlib.Core.List.{List, [], _∷_, map}
+use Prim.Native.Nat.{ℕ, _*_}
+use lib.ListN.{length}
+use lib.Dec.{leb}
+use Rattle.meaning.specs.Tables.{stateRow, moveRow, pairRow}
+use Rattle.meaning.specs.Check.{Check, verdictOf}
+use Rattle.meaning.specs.Calls.{overlaid}
+use Rattle.meaning.specs.declared.Refusal.the-variants as R
+use Rattle.meaning.specs.declared.Verdict.{Verdict}
+use Rattle.meaning.specs.declared.Verdict.the-variants.{Accepted, Refused}
+use Rattle.format.specs.Records.{Column, records, numbers}
+use Rattle.format.specs.Printed.{unsigned, signed16, fileCheck, frameCheck, scansFileCheck}
+use Rattle.records.specs.declared.Answer.{Answer as Told}
+use Rattle.records.specs.declared.Answer.the-variants.{Rows}
+use Rattle.records.specs.declared.Reader.{Reader}
+use Rattle.records.specs.Automaton.{fresh}
+use Rattle.reading.specs.Fields.{stored}
+use Rattle.reading.specs.Files.{Read}
+use Rattle.file.specs.declared.File.{File}
+use Rattle.file.specs.declared.File.the-variants.{Frame, States, Moves, Presets, TimerPairs, OutputPairs, Scans}
+use Rattle.file.specs.declared.Answer.{Answer}
+use Rattle.file.specs.declared.Answer.the-variants as A
+
+-- 16 FIELD of each file, as `fieldChecks` has them for the program
+abbrev pub fieldCheck : File → List ℕ → Check
+fieldCheck Frame bs = frameCheck bs
+fieldCheck States bs = fileCheck (unsigned 16) stateRow bs
+fieldCheck Moves bs = fileCheck signed16 moveRow bs
+fieldCheck Presets bs = fileCheck (unsigned 32) 1 bs
+fieldCheck TimerPairs bs = fileCheck (unsigned 16) pairRow bs
+fieldCheck OutputPairs bs = fileCheck (unsigned 16) pairRow bs
+fieldCheck Scans bs = scansFileCheck bs
+
+abbrev pub fieldVerdict : File → List ℕ → Verdict
+fieldVerdict f bs = verdictOf (fieldCheck f bs ∷ [])
+
+-- FIELD, then ROOM with how many numbers there are, else how many records and numbers
+abbrev pub answerFor : List ℕ → List ℕ → Verdict → Answer
+answerFor bs out Accepted = cond (leb (length (numbers bs)) (length out)) (A.Numbers (length (records bs)) (length (numbers bs))) (A.Refused (R.Room (length (numbers bs))))
+answerFor bs out (Refused r) = A.Refused r
+
+-- the numbers from the front, a negative one as its 64-bit two's complement, the rest kept; "A refusal writes nothing."
+abbrev pub leftFor : List ℕ → List ℕ → Verdict → List ℕ
+leftFor bs out Accepted = cond (leb (length (numbers bs)) (length out)) (overlaid (map stored (numbers bs)) out) out
+leftFor bs out (Refused r) = out
+
+pub record RecordsRead (f : File) (bs out : List ℕ) (a : Answer) (left : List ℕ) : Type 0 where
+  pub answer : a ≡ answerFor bs out (fieldVerdict f bs)
+  pub slice : left ≡ leftFor bs out (fieldVerdict f bs)
+
+-- no second answer
+pub records-read-same : {f : File} {bs out : List ℕ} {a b : Answer} {l m : List ℕ} → RecordsRead f bs out a l → RecordsRead f bs out b m → (a ≡ b) × (l ≡ m)
+records-read-same p q = (p .answer ∙ sym (q .answer), p .slice ∙ sym (q .slice))
+
+-- ---- the parts
+
+-- the type of its fields
+abbrev pub columnFor : File → Column
+columnFor Frame = unsigned 32
+columnFor States = unsigned 16
+columnFor Moves = signed16
+columnFor Presets = unsigned 32
+columnFor TimerPairs = unsigned 16
+columnFor OutputPairs = unsigned 16
+columnFor Scans = unsigned 64
+
+-- how many there are in a record
+abbrev pub rowFor : File → ℕ
+rowFor Frame = 3
+rowFor States = stateRow
+rowFor Moves = moveRow
+rowFor Presets = 1
+rowFor TimerPairs = pairRow
+rowFor OutputPairs = pairRow
+rowFor Scans = 1
+
+abbrev pub readerFor : File → Reader
+readerFor Frame = fresh 4294967295 0 2 1 1
+readerFor States = fresh 65535 0 1 0 18446744073709551615
+readerFor Moves = fresh 32767 32768 10 0 18446744073709551615
+readerFor Presets = fresh 4294967295 0 0 0 18446744073709551615
+readerFor TimerPairs = fresh 65535 0 1 0 18446744073709551615
+readerFor OutputPairs = fresh 65535 0 1 0 18446744073709551615
+readerFor Scans = fresh 18446744073709551615 0 0 0 4096
+
+-- a pass over the file tells the answer of its check; where that is a number of records, each has a number a field
+pub record Passed (f : File) (bs out : List ℕ) (a : Told) (left : List ℕ) : Type 0 where
+  pub read : Read (columnFor f) (fieldCheck f bs) bs out a left
+  pub count : (n : ℕ) → a ≡ Rows n → length (numbers bs) ≡ n * rowFor f
