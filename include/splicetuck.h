@@ -151,4 +151,30 @@ struct splicetuck_answer splicetuck_read_records(
     const uint8_t *bytes, size_t bytes_len,
     uint64_t *out, size_t out_len);
 
+/* What one scan of a chart answers.
+ * number, place: as in struct splicetuck_answer.
+ * leaf: the active leaf after the scan.
+ * outputs: the output word after it, output o the bit of weight 2^(o-1). Both
+ * are 0 when refused. */
+struct splicetuck_step {
+    uint32_t number;
+    uint64_t place;
+    uint16_t leaf;
+    uint64_t outputs;
+};
+
+/* Runs the chart over one scan, from the lent state on.
+ * state, word_in: as in splicetuck_run_chart, with the one input word.
+ * Refusals: 1 to 11; STATE as in splicetuck_run_chart.
+ * Writes the state after the scan to state. */
+struct splicetuck_step splicetuck_step_chart(
+    uint32_t step, uint32_t inputs, uint32_t outputs,
+    const uint16_t *states, size_t states_len,
+    const int16_t *moves, size_t moves_len,
+    const uint32_t *presets, size_t presets_len,
+    const uint16_t *timer_pairs, size_t timer_pairs_len,
+    const uint16_t *output_pairs, size_t output_pairs_len,
+    uint32_t *state, size_t state_len,
+    uint64_t word_in);
+
 #endif

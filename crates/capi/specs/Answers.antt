@@ -18,6 +18,9 @@ use Rattle.words.specs.declared.Written.{Written}
 use Rattle.words.specs.declared.Written.the-variants as W
 use Rattle.words.specs.declared.Sizes.{Sizes}
 use Rattle.words.specs.declared.Sizes.the-variants as S
+use Rattle.runs.specs.declared.Stepped.{Stepped}
+use Rattle.runs.specs.declared.Stepped.the-variants as P
+use Rattle.capi.specs.declared.Step.{Step}
 use Rattle.capi.specs.declared.Controller.{Controller}
 use Rattle.capi.specs.declared.Answer.{Answer}
 
@@ -38,6 +41,30 @@ one-answer v n a b p q = λ i. record {
 abbrev pub RanTold : Ran → Answer → Type 0
 RanTold (Done n) a = Told G.Accepted n a
 RanTold (Refused r) a = Told (G.Refused r) 0 a
+
+-- what is seen after one scan, or why there was none
+pub record StepGiven (n p l o : ℕ) (a : Step) : Type 0 where
+  pub number : a .number ≡ n
+  pub place : a .place ≡ p
+  pub leaf : a .leaf ≡ l
+  pub outputs : a .outputs ≡ o
+
+same-step : (n p l o : ℕ) (a b : Step) → StepGiven n p l o a → StepGiven n p l o b → a ≡ b
+same-step n p l o a b x y = λ i. record {
+  number = (x .number ∙ sym (y .number)) i;
+  place = (x .place ∙ sym (y .place)) i;
+  leaf = (x .leaf ∙ sym (y .leaf)) i;
+  outputs = (x .outputs ∙ sym (y .outputs)) i;
+}
+
+abbrev pub StepTold : Stepped → Step → Type 0
+StepTold (P.Done l o) a = StepGiven 0 0 l o a
+StepTold (P.Refused r) a = StepGiven (numberOf r) (placeOf r) 0 0 a
+
+-- no second answer
+pub one-scan-told : (s : Stepped) (a b : Step) → StepTold s a → StepTold s b → a ≡ b
+one-scan-told (P.Done l o) a b p q = same-step 0 0 l o a b p q
+one-scan-told (P.Refused r) a b p q = same-step (numberOf r) (placeOf r) 0 0 a b p q
 
 abbrev pub WrittenTold : Written → Answer → Type 0
 WrittenTold (W.Wrote n) a = Told G.Accepted n a

@@ -3,6 +3,7 @@ use file::File;
 use lent::Ran;
 use meaning::Refusal;
 use meaning::Verdict;
+use runs::Stepped;
 use tables::Chart;
 use words::Sizes;
 use words::Written;
@@ -11,8 +12,10 @@ ghost use Rattle.meaning.specs.Check.{verdict};
 ghost use Rattle.meaning.specs.declared.Verdict.{Verdict};
 ghost use Rattle.tables.specs.Given.{tablesOf};
 ghost use Rattle.runs.specs.Runs.{ChartRan};
+ghost use Rattle.runs.specs.Steps.{ChartStepped};
+ghost use Rattle.runs.specs.declared.Stepped.{Stepped};
 ghost use Rattle.lent.specs.declared.Ran.{Ran};
-ghost use Rattle.capi.specs.Answers.{Told, RanTold, WrittenTold, SizesTell};
+ghost use Rattle.capi.specs.Answers.{Told, RanTold, StepTold, WrittenTold, SizesTell};
 ghost use Rattle.translate.specs.Texts.{ChartWritten};
 ghost use Rattle.writer.specs.declared.Written.{Written as Text};
 ghost use Rattle.capi.specs.Answers.{TextTold, LengthTold, ReadTold};
@@ -124,6 +127,68 @@ pub extern "C" fn splicetuck_run_chart(
         words_in,
         leaves,
         words_out,
+    ))
+}
+
+// Document 01's number of the answer and its place, and what is seen after one scan.
+#[repr(C)]
+pub struct Step {
+    pub number: u32,
+    pub place: usize,
+    pub leaf: u16,
+    pub outputs: u64,
+}
+
+fn tell_step(s: Stepped) -> Step
+    ensures { λ a. ⌜ StepTold s a ⌝ }
+{
+    match s {
+        Stepped::Done { leaf, outputs } => Step {
+            number: 0,
+            place: 0,
+            leaf: leaf,
+            outputs: outputs,
+        },
+        Stepped::Refused(r) => Step {
+            number: meaning::number(r),
+            place: meaning::place(r),
+            leaf: 0,
+            outputs: 0,
+        },
+    }
+}
+
+// One scan of a chart over lent state: refusals 1 to 11, STATE.
+#[no_mangle]
+pub extern "C" fn splicetuck_step_chart(
+    step: u32,
+    inputs: u32,
+    outputs: u32,
+    states: &[u16],
+    moves: &[i16],
+    presets: &[u32],
+    timer_pairs: &[u16],
+    output_pairs: &[u16],
+    state: &mut [u32],
+    word_in: u64,
+) -> Step
+    ensures { λ a. ⌜ ((s : Stepped) × ChartStepped (tablesOf (record { step = step; inputs = inputs; outputs = outputs }) (now (states .entry)) (now (moves .entry)) (now (presets .entry)) (now («timer_pairs» .entry)) (now («output_pairs» .entry)))
+        «word_in» (now (state .entry)) s (now (state .exit)) × StepTold s a) ⌝ }
+{
+    let chart = Chart {
+        step: step,
+        inputs: inputs,
+        outputs: outputs,
+    };
+    tell_step(runs::step_chart(
+        chart,
+        states,
+        moves,
+        presets,
+        timer_pairs,
+        output_pairs,
+        state,
+        word_in,
     ))
 }
 

@@ -27,7 +27,8 @@ one-row f true ks = refl
 one-row f false ks = refl
 
 module _ (c : Tables) (xs l ls os : List ℕ) where
-  later : laterVerdict c l xs ls os
+  -- the later checks, one test after the other
+  pub later : laterVerdict c l xs ls os
       ≡ cond (statePasses c l) (cond (eqb (length ls) (length xs)) (cond (eqb (length os) (length xs)) Accepted (Refused R.Scans)) (Refused R.Scans)) (Refused R.State)
   unfolding stateCheck scansCheck verdictOf
   later =

@@ -2,7 +2,7 @@
 use meaning::Kind;
 ghost use mathlib.Core.Path.{_≡_};
 ghost use Prim.Native.Nat.{_+_, _*_};
-ghost use lib.ListN.{getD};
+ghost use lib.ListN.{getD, replicate};
 ghost use lib.IntN.{natAbs};
 ghost use Rattle.meaning.specs.Tables.{Tables, superState, initial, pairNumber, pairState, cell, source, target, mark, literal};
 ghost use Rattle.meaning.specs.Hierarchy.{depth, atOrAbove, subState, subStates, leaf, paired};
@@ -37,6 +37,14 @@ impl Chart {
     pub const STEP: u32 = 1000;
 
     pub const PRESET: u32 = 86400000;
+
+    // The cleared state: "All zero is the start." A chart's state has a code for each super-state and a value for each
+    // timer, so 256 and 32 numbers are enough for any; the caller lends the front, as long as the chart's state is.
+    pub fn cleared() -> [u32; 288]
+        ensures { λ r. ⌜ r ≡ replicate 288 0 ⌝ }
+    {
+        [0u32; 288]
+    }
 }
 
 fn wide(x: u16) -> usize
