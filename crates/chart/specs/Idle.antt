@@ -13,8 +13,8 @@ use lib.IntN.{ℤ, natAbs}
 use borrow.Author.Tests.{eq-eqb, ne-eqb, ltb-true, ltb-false, leb-true, lt-ltb, le-ltb, lt-leb, le-leb}
 use Rattle.meaning.specs.Rows.{every}
 use Rattle.meaning.specs.RowsLaws.{which, and-l, and-r, or-r, same-test, every-yes, every-intro}
-use Rattle.meaning.specs.Tables.{Tables, mostTimers, mostStates, literalPlaces, stateCount, initial, source, literal}
-use Rattle.meaning.specs.Hierarchy.{atOrAbove, subState, leaf, runs}
+use Rattle.meaning.specs.Tables.{Tables, mostTimers, mostStates, literalPlaces, stateCount, source, literal}
+use Rattle.meaning.specs.Hierarchy.{atOrAbove, leaf, runs}
 use Rattle.meaning.specs.Literals.{kindOf}
 use Rattle.meaning.specs.Check.{initialPasses, runsBelow, idlePasses}
 use Rattle.meaning.specs.declared.Kind.{Kind}
@@ -85,16 +85,6 @@ timer-range n t e = elim (which (eqb n 0)) [
 
     apart : (k : Kind) → isTimer k ≡ false → k ≡ Timer t → ⊥
     apart k f g = false≢true (sym f ∙ ap isTimer g)
-
--- "A state without sub-states is a leaf and has initial 0", and another has not
-pub leaf-initial : (c : Tables) (s : ℕ) → initialPasses c s ≡ true → leaf c s ≡ eqb (initial c s) 0
-unfolding initialPasses subState
-leaf-initial c s e = elim (which (leaf c s)) [
-  | inl f ↦ f ∙ sym (rw f at e)
-  | inr f ↦ (let g : subState c s (initial c s) ≡ true = rw f at e in
-      let h = ltb-true 0 (initial c s) (search (and-l, and-r)) in
-      f ∙ sym (ne-eqb (initial c s) 0 (λ z. omega arith)))
-]
 
 -- ---- the table is filled
 

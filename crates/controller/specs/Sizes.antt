@@ -23,8 +23,8 @@ use Rattle.format.specs.declared.Decoded.the-variants.{Known, Unknown}
 use Rattle.format.specs.Words.{word, words}
 use Rattle.format.specs.Decode.{instruction, decoded}
 use Rattle.format.specs.DecodeLaws.{decode-word}
+use Rattle.format.specs.Passing.{program-instructions}
 use Rattle.instruction.specs.Effect.{due, calledBy, blockOf}
-use Rattle.il.specs.Accepted.{program-known}
 use Rattle.il.specs.Scans.{Fitting}
 
 unfoldable pub bytesIn : Decoded → ℕ
@@ -197,7 +197,7 @@ program-asks p ws f =
     let d = length (p .timers) in
     let h : (leb d mostTimers && all (timerRungFits d) (p .timers)) ≡ true = and-l _ (all (rungFits d) (p .rungs)) (f .program) in
     let few : d ≤ 32 = leb-true d 32 (and-l (leb d mostTimers) (all (timerRungFits d) (p .timers)) h) in
-    let k = program-known p (f .program) in
+    let k = program-instructions p (f .program) in
     let e : rungsIn ws noRungs ≡ rungsBy (timerRungsFrom 1 (p .timers)) noRungs =
     rw (← f .list, rungs-words (instructions p) noRungs k) (rungs-append (timerRungsFrom 1 (p .timers)) (flatMap rungOf (p .rungs)) noRungs
     ∙ idle-rungs d (p .rungs) (and-r (leb d mostTimers && all (timerRungFits d) (p .timers)) _ (f .program)) _) in

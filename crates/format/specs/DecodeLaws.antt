@@ -3,10 +3,10 @@ use mathlib.Core.Path.{_≡_, refl, sym, ap, _∙_}
 use mathlib.Core.Logic.{inl, inr}
 use Prim.Native.Nat.{ℕ, _+_, _-_, _/_, _%_, _≤_, _<_}
 use native.Mathlib.Omega.{arith}
-use mathlib.Core.Bool.{Bool, true, false, _||_, cond, true≢false, false≢true}
+use mathlib.Core.Bool.{Bool, true, false, _||_, cond, or-false, true≢false, false≢true}
 use lib.Dec.{leb, eqb}
 use borrow.Author.Tests.{leb-true, leb-false, eqb-true, le-leb, lt-leb}
-use Rattle.meaning.specs.RowsLaws.{which, and-l, and-r, or-l, or-r}
+use Rattle.meaning.specs.RowsLaws.{which, and-l, and-r, and-both, or-l, or-r}
 use Rattle.meaning.specs.Tables.{mostTimers, mostInputs, mostOutputs, mostPreset}
 use Rattle.meaning.specs.Literals.{between}
 use Rattle.meaning.specs.Programs.{testable, constant, flipFlopFits, outputFits, carried}
@@ -90,12 +90,11 @@ word-decode n i e = let r = unpacked-right (n / 134217728) (n % 134217728) i e i
 
 -- ---- from the instruction
 
-pub or-false : (b : Bool) → (b || false) ≡ b
-or-false true = refl
-or-false false = refl
-
 pub within : (a b n : ℕ) → between a b n ≡ true → (a ≤ n) × (n ≤ b)
 within a b n e = (leb-true a n (and-l (leb a n) (leb n b) e), leb-true n b (and-r (leb a n) (leb n b) e))
+
+pub in-range : (a b n : ℕ) → a ≤ n → n ≤ b → between a b n ≡ true
+in-range a b n h k = and-both _ _ (le-leb a n h) (le-leb n b k)
 
 low : (n : ℕ) → ((leb n 255 || false) || (leb n 255 || false || false) || false) ≡ true → leb n 255 ≡ true
 low n e = elim (which (leb n 255)) [ inl f ↦ f | inr f ↦ absurd (false≢true (rw f at e)) ]
@@ -185,3 +184,18 @@ decode-word (LdTime n) e = unpack 11 n (omega (arith, within 1 mostPreset n e .1
 
 pub word-same : (i j : Operator) → instruction i ≡ true → instruction j ≡ true → word i ≡ word j → i ≡ j
 word-same i j a b e = let h : Known i ≡ Known j = sym (decode-word i a) ∙ ap decoded e ∙ decode-word j b in cc
+
+-- an instruction's word has 32 bits
+pub word-small : (i : Operator) → instruction i ≡ true → word i < 4294967296
+unfolding word carried instruction
+word-small (Ld o) f = omega (arith, operand-small o (carried-fits (Ld o) f))
+word-small (Ldn o) f = omega (arith, operand-small o (carried-fits (Ldn o) f))
+word-small (And o) f = omega (arith, operand-small o (carried-fits (And o) f))
+word-small (Andn o) f = omega (arith, operand-small o (carried-fits (Andn o) f))
+word-small Or f = omega arith
+word-small Close f = omega arith
+word-small (St o) f = omega (arith, operand-small o (carried-fits (St o) f))
+word-small (S o) f = omega (arith, operand-small o (carried-fits (S o) f))
+word-small (R o) f = omega (arith, operand-small o (carried-fits (R o) f))
+word-small (Cal o) f = omega (arith, operand-small o (carried-fits (Cal o) f))
+word-small (LdTime n) f = omega (arith, within 1 mostPreset n f .1)

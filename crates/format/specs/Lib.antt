@@ -15,6 +15,7 @@ pub mod Parsing
 pub mod Unique
 pub mod WordLaws
 pub mod Lines
+pub mod Decimals
 pub mod LineLaws
 pub mod Pages
 pub mod PageLaws

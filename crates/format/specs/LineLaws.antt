@@ -1,16 +1,14 @@
 -- A line's bytes say which line it is.
 use mathlib.Core.Path.{_≡_, refl, sym, ap, ap₂, _∙_}
 use mathlib.Core.Logic.{_⊎_, inl, inr}
-use Prim.Native.Nat.{ℕ, zero, suc, _+_, _*_, _-_, _/_, _%_, _^_, _<_}
-use native.Mathlib.Nat.{pow-suc}
+use Prim.Native.Nat.{ℕ, zero, suc, _+_, _/_, _%_, _^_, _<_}
 use native.Mathlib.Omega.{arith}
-use mathlib.Core.Bool.{Bool, true, false, _&&_, not, true≢false, false≢true}
-use mathlib.Core.List.{List, [], _∷_, _++_, append-nil, append-assoc}
+use mathlib.Core.Bool.{Bool, true, false, _&&_, not, false≢true}
+use mathlib.Core.List.{List, [], _∷_, _++_, append-nil}
 use lib.ListN.{getD}
 use lib.Dec.{ltb, eqb}
-use borrow.Author.Tests.{ne-eqb, eqb-true, eq-eqb, le-leb, ltb-true}
+use borrow.Author.Tests.{ne-eqb, eqb-true, eq-eqb}
 use Rattle.meaning.specs.RowsLaws.{which, and-l, and-r, and-both}
-use Rattle.meaning.specs.Literals.{between}
 use Rattle.meaning.specs.Programs.{all}
 use Rattle.meaning.specs.Tables.{mostTimers, mostPreset}
 use Rattle.meaning.specs.Programs.{carried}
@@ -26,50 +24,7 @@ use Rattle.format.specs.Records.{same}
 use Rattle.format.specs.Decode.{instruction}
 use Rattle.format.specs.DecodeLaws.{operand-small, carried-fits, within}
 use Rattle.format.specs.Lines.{lineText, lineFits, leading, timerOperand, operandIn, loadIn, operatorIn, lineIn, said}
-
-leading-digit : (a c : ℕ) (r : List ℕ) → c < 10 → leading a ((48 + c) ∷ r) ≡ leading (10 * a + c) r
-unfolding leading
-leading-digit a c r h =
-    let e : between 48 57 (48 + c) ≡ true = and-both _ _ (le-leb 48 (48 + c) (omega arith)) (le-leb (48 + c) 57 (omega arith)) in
-    let f : 48 + c - 48 ≡ c = omega arith in
-    rw (leading, e, f)
-
--- digits spell their number
-leading-digits : (k n : ℕ) (r : List ℕ) → n < 10 ^ suc k → leading 0 (digits k n ++ r) ≡ leading n r
-unfolding digits
-leading-digits zero n r h = leading-digit 0 (n % 10) r (omega arith) ∙ ap (λ x. leading x r) (omega arith)
-leading-digits (suc k) n r h = elim (which (ltb n 10)) [
-  | inl e ↦ rw (digits, e) (leading-digit 0 (n % 10) r (omega arith) ∙ ap (λ x. leading x r) (omega (arith, ltb-true n 10 e)))
-  | inr e ↦ rw (digits, e) (rw append-assoc (leading-digits k (n / 10) ((48 + n % 10) ∷ r) (omega (arith, pow-suc 10 (suc k))) ∙ leading-digit (n / 10) (n % 10) r (omega arith) ∙ ap (λ x. leading x r) (omega arith)))
-]
-
-pub leading-decimal : (n : ℕ) (r : List ℕ) → n < 2 ^ 64 → leading 0 (decimal n ++ r) ≡ leading n r
-unfolding decimal
-leading-decimal n r h = leading-digits 19 n r (omega arith)
-
-pub leading-all : (n : ℕ) → n < 2 ^ 64 → leading 0 (decimal n) .number ≡ n
-unfolding leading
-leading-all n h = ap (λ l. leading 0 l .number) (sym (append-nil (decimal n))) ∙ ap (λ s. s .number) (leading-decimal n [] h)
-
-pub decimal-same : (n m : ℕ) → n < 2 ^ 64 → m < 2 ^ 64 → decimal n ≡ decimal m → n ≡ m
-decimal-same n m h k e = sym (leading-all n h) ∙ ap (λ l. leading 0 l .number) e ∙ leading-all m k
-
--- ---- the bytes of a decimal
-
-first-digit : (k n : ℕ) (r : List ℕ) → (c : ℕ) × (c < 10) × (getD (digits k n ++ r) 0 0 ≡ 48 + c)
-unfolding digits
-first-digit zero n r = (n % 10, omega arith, refl)
-first-digit (suc k) n r = elim (which (ltb n 10)) [
-  | inl e ↦ rw (digits, e) (n % 10, omega arith, refl)
-  | inr e ↦ rw (digits, e) (rw append-assoc (first-digit k (n / 10) ((48 + n % 10) ∷ r)))
-]
-
--- a decimal begins with no other byte
-pub begins-digit : (n x : ℕ) (r : List ℕ) → between 48 57 x ≡ false → eqb (getD (decimal n ++ r) 0 0) x ≡ false
-unfolding decimal
-begins-digit n x r h =
-    let f = first-digit 19 n r in
-    ne-eqb (getD (digits 19 n ++ r) 0 0) x (λ e. true≢false (sym (and-both _ _ (le-leb 48 x (omega (arith, e, f .2))) (le-leb x 57 (omega (arith, e, f .1, f .2)))) ∙ h))
+use Rattle.format.specs.Decimals.{leading-decimal, leading-all, begins-digit}
 
 -- no byte is LF
 unfoldable pub oneLine : List ℕ → Bool
@@ -139,10 +94,6 @@ operator-in (R o) f = ap R (carried-in (R o) f)
 operator-in (Cal o) f = ap Cal (carried-in (Cal o) f)
 operator-in (LdTime n) f = ap (λ s. LdTime (s .number)) (leading-decimal n (bytes "ms") (omega (arith, within 1 mostPreset n f .1)))
 
--- the texts of instructions are distinct
-pub operator-same : (i j : Operator) → instruction i ≡ true → instruction j ≡ true → operatorText i ≡ operatorText j → i ≡ j
-operator-same i j f g e = sym (operator-in i f) ∙ ap operatorIn e ∙ operator-in j g
-
 -- ---- lines
 
 says-in : (i : Operator) → lineIn (operatorText i) ≡ Says (operatorIn (operatorText i))
@@ -169,12 +120,12 @@ line-in (Says i) f = says-in i ∙ ap Says (operator-in i f)
 line-in EndProgram f = refl
 line-in Unknown f = absurd (false≢true f)
 
-same-refl : (l : List ℕ) → same l l ≡ true
+pub same-refl : (l : List ℕ) → same l l ≡ true
 unfolding same
 same-refl [] = refl
 same-refl (b ∷ l) = and-both _ _ (eq-eqb b b refl) (same-refl l)
 
-same-yes : (l m : List ℕ) → same l m ≡ true → l ≡ m
+pub same-yes : (l m : List ℕ) → same l m ≡ true → l ≡ m
 unfolding same
 same-yes [] [] e = refl
 same-yes [] (d ∷ m) e = absurd (false≢true e)

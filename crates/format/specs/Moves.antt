@@ -3,10 +3,10 @@ use mathlib.Core.Path.{_≡_, refl, sym, ap, _∙_}
 use mathlib.Core.Logic.{_⊎_, inl, inr}
 use Prim.Native.Nat.{ℕ, suc, _≤_}
 use native.Mathlib.Omega.{arith}
-use mathlib.Core.Bool.{Bool, true, false, _&&_, _||_, cond, false≢true}
+use mathlib.Core.Bool.{Bool, true, false, _&&_, _||_, cond, false≢true, or-false}
 use lib.Dec.{leb, eqb}
 use borrow.Author.Tests.{leb-true, eqb-true, eq-eqb, le-leb}
-use Rattle.meaning.specs.RowsLaws.{which, and-l, and-r, and-both, or-cases, or-l}
+use Rattle.meaning.specs.RowsLaws.{which, and-l, and-r, or-cases, or-l}
 use Rattle.meaning.specs.Tables.{mostTimers, mostPreset}
 use Rattle.meaning.specs.Literals.{between}
 use Rattle.meaning.specs.Programs.{Test, loadOf, andOf, testable, constant, loadFits, flipFlopFits, outputFits, storeFits}
@@ -18,7 +18,7 @@ use Rattle.format.specs.declared.Phase.{Phase}
 use Rattle.format.specs.declared.Phase.the-variants.{Between, Body, Opened, Inside, Stored, GivenIn, GivenTime, GivenPt, Refused}
 use Rattle.format.specs.declared.Reading.{Reading}
 use Rattle.format.specs.Decode.{instruction, inputFits, blockFits}
-use Rattle.format.specs.DecodeLaws.{or-false, within}
+use Rattle.format.specs.DecodeLaws.{within, in-range}
 use Rattle.format.specs.Phases.{phaseNumber, at, to, naming, settled, counted, moved, block, load, also, opened, closed, store, giveIn, giveTime, givePt, call, put, step, alive}
 
 -- from one reading to the next by an instruction
@@ -56,9 +56,6 @@ phase-of Refused = refl
 
 pub at-yes : (w : Phase) (s : Reading) → at w s ≡ true → s .phase ≡ w
 at-yes w s e = sym (phase-of (s .phase)) ∙ ap phaseOf (eqb-true _ _ e) ∙ phase-of w
-
-pub yes-at : (w : Phase) (s : Reading) → s .phase ≡ w → at w s ≡ true
-yes-at w s e = eq-eqb _ _ (ap phaseNumber e)
 
 moved-alive : (b : Bool) (t s : Reading) → alive (moved b t s) ≡ true → b ≡ true
 unfolding alive
@@ -233,9 +230,6 @@ store-instruction (R o) f = f
 store-instruction (Cal o) f = absurd (false≢true f)
 store-instruction (LdTime n) f = absurd (false≢true f)
 
-numbered : (n : ℕ) → suc n ≤ mostTimers → between 1 mostTimers (suc n) ≡ true
-numbered n h = and-both _ _ (le-leb 1 (suc n) (omega arith)) (le-leb (suc n) mostTimers h)
-
 pub moves-instruction : {s r : Reading} {i : Operator} → Moves s i r → instruction i ≡ true
 unfolding instruction loadOf andOf loadFits flipFlopFits outputFits inputFits blockFits
 moves-instruction (begins t e f h) = load-instruction (t .wanted) (t .operand) f
@@ -247,7 +241,7 @@ moves-instruction (opens e) = refl
 moves-instruction (closes e) = refl
 moves-instruction (stores i e f h) = store-instruction i f
 moves-instruction (storesNext i e f h) = store-instruction i f
-moves-instruction {s} (givesIn e h k) = numbered (s .timers) k
+moves-instruction {s} (givesIn e h k) = in-range 1 mostTimers (suc (s .timers)) (omega arith) k
 moves-instruction (givesTime n e f) = f
-moves-instruction {s} (givesPt e k) = numbered (s .timers) k
-moves-instruction {s} (calls e k) = numbered (s .timers) k
+moves-instruction {s} (givesPt e k) = in-range 1 mostTimers (suc (s .timers)) (omega arith) k
+moves-instruction {s} (calls e k) = in-range 1 mostTimers (suc (s .timers)) (omega arith) k

@@ -8,7 +8,7 @@ use mathlib.Core.List.{List, [], _∷_, _++_, map, flatMap, append-assoc}
 use lib.ListN.{length, take}
 use lib.Dec.{leb}
 use borrow.Author.Tests.{leb-true, le-leb}
-use Rattle.meaning.specs.RowsLaws.{which, and-l, and-r, and-both, or-cases}
+use Rattle.meaning.specs.RowsLaws.{which, and-l, and-r, and-both, or-cases, no-length}
 use Rattle.meaning.specs.Tables.{mostTimers, mostPreset}
 use Rattle.meaning.specs.Literals.{between}
 use Rattle.meaning.specs.Programs.{Test, Chain, Part, also, bracket, Body, Rung, TimerRung, Program, loadOf, andOf, chainOf, partOf, bodyOf, rungOf, timerRungOf, timerRungsFrom, instructions, all, testable, constant, loadFits, chainFits, partFits, bodyFits, flipFlopFits, storeFits, rungFits, timerRungFits, fits}
@@ -173,10 +173,6 @@ fits-chain c f F = record { chain = f; parts = F .parts; time = F .time; store =
 
 fits-parts : {d : ℕ} {z : Tail} (ps : List Part) → all (partFits d) ps ≡ true → TailFits d z → TailFits d (withParts ps z)
 fits-parts ps f F = record { chain = F .chain; parts = f; time = F .time; store = F .store; stores = F .stores; timers = F .timers; rungs = F .rungs; settled = F .settled }
-
-no-length : {A : Type 0} (l : List A) → length l ≡ 0 → l ≡ []
-no-length [] e = refl
-no-length (x ∷ l) e = absurd (omega arith)
 
 grow-begin : {d : ℕ} {s : Reading} {l : List Operator} (t : Test) → (s .phase ≡ P.Between) ⊎ (s .phase ≡ P.Stored) → loadFits mostTimers t ≡ true → Rest d (naming (block (t .operand)) (to P.Body s)) l → Rest d s (loadOf t ∷ l)
 unfolding begun
@@ -346,6 +342,7 @@ pub record Parsed (a b : ℕ) (l : List Operator) : Type 0 where
   pub listing : instructions program ≡ l
   pub least : a ≤ length (program .timers)
   pub most : length (program .timers) ≤ b
+  pub counts : length (program .timers) ≡ (after (begin a b) l) .timers
 
 -- what is accepted is what the grammar makes
 pub accepted-program : (a b : ℕ) (l : List Operator) → a ≤ b → b ≤ mostTimers → Accepts (begin a b) l → Parsed a b l
@@ -359,4 +356,5 @@ accepted-program a b l h k accepted =
       listing = r .lists;
       least = omega (arith, r .named);
       most = omega (arith, r .most);
+      counts = e;
     }

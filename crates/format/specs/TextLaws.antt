@@ -4,11 +4,11 @@ use mathlib.Core.Logic.{inl, inr, _↔_}
 use Prim.Native.Nat.{ℕ, zero, suc}
 use native.Mathlib.Omega.{arith}
 use mathlib.Core.Bool.{true, not, false≢true}
-use mathlib.Core.List.{List, [], _∷_, _++_, map, flatMap, append-assoc, append-nil}
+use mathlib.Core.List.{List, [], _∷_, _++_, map, flatMap, map-append, append-assoc, append-nil}
 use lib.ListN.{length}
 use lib.Dec.{eqb}
 use Rattle.meaning.specs.Rows.{table}
-use Rattle.meaning.specs.RowsLaws.{and-l, and-r, and-both}
+use Rattle.meaning.specs.RowsLaws.{and-l, and-r, and-both, flatMap-append}
 use Rattle.meaning.specs.Programs.{Program, instructions, all, fits}
 use Rattle.meaning.specs.declared.Operator.{Operator}
 use Rattle.format.specs.declared.Line.{Line}
@@ -23,15 +23,10 @@ use Rattle.format.specs.PageLaws.{SoundPage, first-sound, lines-program,
 
 -- ---- the text of a program as lines
 
-pub lines-append : (a b : List (List ℕ)) → flatMap line (a ++ b) ≡ flatMap line a ++ flatMap line b
-unfolding flatMap
-lines-append [] b = refl
-lines-append (x ∷ a) b = ap (λ l. line x ++ l) (lines-append a b) ∙ sym (append-assoc (line x) (flatMap line a) (flatMap line b))
-
 -- one line more
 pub lines-more : (ls : List (List ℕ)) (x y : List ℕ) → flatMap line (ls ++ (x ∷ [])) ++ y ≡ flatMap line ls ++ (line x ++ y)
 unfolding flatMap
-lines-more ls x y = ap (λ l. l ++ y) (lines-append ls (x ∷ []) ∙ ap (λ l. flatMap line ls ++ l) (append-nil (line x))) ∙ append-assoc (flatMap line ls) (line x) y
+lines-more ls x y = ap (λ l. l ++ y) (flatMap-append line ls (x ∷ []) ∙ ap (λ l. flatMap line ls ++ l) (append-nil (line x))) ∙ append-assoc (flatMap line ls) (line x) y
 
 says-text : (is : List Operator) → flatMap line (map lineText (map Says is)) ≡ flatMap (λ i. line (operatorText i)) is
 unfolding flatMap lineText
@@ -43,12 +38,8 @@ unfolding flatMap lineText blockLine
 blocks-text [] = refl
 blocks-text (n ∷ ns) = ap (λ l. blockLine n ++ l) (blocks-text ns)
 
-map-append : {A B : Type 0} (f : A → B) (l m : List A) → map f (l ++ m) ≡ map f l ++ map f m
-map-append f [] m = refl
-map-append f (x ∷ l) m = ap (λ r. f x ∷ r) (map-append f l m)
-
 text-append : (ts us : List Line) → flatMap line (map lineText (ts ++ us)) ≡ flatMap line (map lineText ts) ++ flatMap line (map lineText us)
-text-append ts us = rw map-append (lines-append (map lineText ts) (map lineText us))
+text-append ts us = rw map-append (flatMap-append line (map lineText ts) (map lineText us))
 
 declared-text : (d : ℕ) → flatMap line (map lineText (declared d)) ≡ declarations d
 unfolding flatMap declared declarations lineText
@@ -128,7 +119,7 @@ record Said (ls : List (List ℕ)) : Type 0 where
   known : all lineFits (map said ls) ≡ true
   texts : map lineText (map said ls) ≡ ls
 
-said-known : (s : Page) (l : List ℕ) → standing (turn s (said l)) ≡ true → lineFits (said l) ≡ true
+pub said-known : (s : Page) (l : List ℕ) → standing (turn s (said l)) ≡ true → lineFits (said l) ≡ true
 unfolding turn standing
 said-known s l e = elim (said-fits l) [ inl u ↦ absurd (false≢true (rw u at e)) | inr f ↦ f ]
 
@@ -216,7 +207,7 @@ continues-lines ls f = (there, back)
         let c = can-close (afterLines firstPage ls) z e in
         let g = afterLines-append ls (map lineText (c .0)) firstPage ∙ after-texts (c .0) _ (c .1 .known) in
         let a = accepted-lines (ls ++ map lineText (c .0)) (all-append oneLine ls (map lineText (c .0)) f (texts-line (c .0))) .1 (ap over g ∙ c .1 .ends) in
-        (flatMap line (map lineText (c .0)), rw lines-append at a)
+        (flatMap line (map lineText (c .0)), rw (flatMap-append line ls (map lineText (c .0))) at a)
 
 -- "A last line without LF is one that no text has."
 pub last-line : (ls : List (List ℕ)) (r : List ℕ) → all oneLine ls ≡ true → oneLine r ≡ true → AcceptedText (flatMap line ls ++ r) → r ≡ []

@@ -9,7 +9,7 @@ use lib.ListN.{length, getD, take, drop, length-append, length-take, length-drop
 use lib.Seq.{slice, getD-take, getD-drop, take-take, take-suc, take-length, split-at, length-take-le, take-append-seam, drop-append-seam, drop-append-le}
 use lib.Dec.{eqb}
 use borrow.Author.Tests.{eqb-true, ne-eqb}
-use Rattle.meaning.specs.RowsLaws.{which, and-l, and-r, and-both, false-not}
+use Rattle.meaning.specs.RowsLaws.{which, and-l, and-r, and-both, false-not, flatMap-append}
 use Rattle.meaning.specs.Programs.{Program, instructions, all, fits}
 use Rattle.format.specs.declared.Page.{Page}
 use Rattle.format.specs.Text.{line, text, AcceptedText}
@@ -18,7 +18,7 @@ use Rattle.format.specs.Lines.{said, firstPage, turn, afterLines}
 use Rattle.format.specs.LineLaws.{all-append, oneLine}
 use Rattle.format.specs.Pages.{standing, over}
 use Rattle.format.specs.WordLaws.{place-same}
-use Rattle.format.specs.TextLaws.{lines-append, lines-more, afterLines-append, spoken, read-lines, accepted-lines}
+use Rattle.format.specs.TextLaws.{lines-more, afterLines-append, spoken, read-lines, accepted-lines}
 use Rattle.format.specs.TextPlaces.{line-cons, Stuck, unfinished, refused, text-place}
 
 -- the first b bytes of l are lines, and they lead to page s
@@ -29,10 +29,6 @@ pub record Taken (l : List ℕ) (b : ℕ) (s : Page) : Type 0 where
   pub lists : flatMap line lines ≡ take b l
   pub page : afterLines firstPage lines ≡ s
   pub stands : standing s ≡ true
-
-pub taken-none : (l : List ℕ) → Taken l 0 firstPage
-unfolding all flatMap afterLines firstPage standing
-taken-none l = record { lines = []; whole = refl; within = omega arith; lists = refl; page = refl; stands = refl }
 
 -- the line from b up to the LF at e
 pub slice-line : (l : List ℕ) (b e : ℕ) → b ≤ e → e < length l → getD l e 0 ≡ 10 → drop b l ≡ line (slice b e l) ++ drop (suc e) l
@@ -72,16 +68,19 @@ taken-place {l} {b} t k =
 module _ {l : List ℕ} {b : ℕ} {s : Page} (t : Taken l b s) where
   module _ (e : ℕ) (h : b ≤ e) (k : e < length l) (z : getD l e 0 ≡ 10) (f : oneLine (slice b e l) ≡ true) where
     -- a line that the reader takes
-    pub taken-line : standing (turn s (said (slice b e l))) ≡ true → Taken l (suc e) (turn s (said (slice b e l)))
+    pub taken-line : standing (turn s (said (slice b e l))) ≡ true → (u : Taken l (suc e) (turn s (said (slice b e l)))) × (u .lines ≡ t .lines ++ (slice b e l ∷ []))
     unfolding all flatMap afterLines
-    taken-line a = record {
-      lines = t .lines ++ (slice b e l ∷ []);
-      whole = all-append oneLine (t .lines) (slice b e l ∷ []) (t .whole) (and-both _ _ f refl);
-      within = k;
-      lists = lines-append (t .lines) (slice b e l ∷ []) ∙ ap₂ _++_ (t .lists) (append-nil (line (slice b e l))) ∙ sym (take-line l b e h k z);
-      page = afterLines-append (t .lines) (slice b e l ∷ []) firstPage ∙ ap (λ r. turn r (said (slice b e l))) (t .page);
-      stands = a;
-    }
+    taken-line a = (
+      record {
+        lines = t .lines ++ (slice b e l ∷ []);
+        whole = all-append oneLine (t .lines) (slice b e l ∷ []) (t .whole) (and-both _ _ f refl);
+        within = k;
+        lists = flatMap-append line (t .lines) (slice b e l ∷ []) ∙ ap₂ _++_ (t .lists) (append-nil (line (slice b e l))) ∙ sym (take-line l b e h k z);
+        page = afterLines-append (t .lines) (slice b e l ∷ []) firstPage ∙ ap (λ r. turn r (said (slice b e l))) (t .page);
+        stands = a;
+      },
+      refl,
+    )
 
     -- a line that it refuses
     pub taken-refused : standing (turn s (said (slice b e l))) ≡ false → TextPlace l b

@@ -4,13 +4,13 @@ use mathlib.Core.Logic.{inl, inr, _↔_}
 use Prim.Native.Nat.{ℕ, suc, _≤_, _<_}
 use native.Mathlib.Omega.{arith}
 use native.Mathlib.Decide.{decLe}
-use mathlib.Core.Bool.{Bool, true, false, _&&_, cond, true≢false, false≢true}
+use mathlib.Core.Bool.{true, false, _&&_, cond, true≢false, false≢true}
 use mathlib.Core.List.{List, [], _∷_, _++_, map}
 use lib.ListN.{length, getD, take, drop, take-append-drop}
 use lib.Seq.{take-take, take-suc, take-length}
 use lib.Dec.{leb}
 use borrow.Author.Tests.{leb-true}
-use Rattle.meaning.specs.RowsLaws.{which, and-l, and-r, and-both}
+use Rattle.meaning.specs.RowsLaws.{which, and-l, and-r, and-both, false-by}
 use Rattle.meaning.specs.Tables.{mostTimers}
 use Rattle.meaning.specs.Programs.{Program, instructions, all, timerRungFits, fits}
 use Rattle.meaning.specs.declared.Operator.{Operator}
@@ -112,10 +112,6 @@ pub record Stops (l : List ℕ) (k : ℕ) : Type 0 where
 take-front : {A : Type 0} (k j : ℕ) (l : List A) → k ≤ j → take k l ++ drop k (take j l) ≡ take j l
 take-front k j l h = rw (← take-take k j l h) (take-append-drop k (take j l))
 
-false-by : (b : Bool) → (b ≡ true → ⊥) → b ≡ false
-false-by true f = absurd (f refl)
-false-by false f = refl
-
 pub word-place : (l : List ℕ) (k : ℕ) → WordPlace l k ↔ Stops l k
 word-place l k = (
   λ p. record {
@@ -189,6 +185,14 @@ words-back (i ∷ is) (j ∷ js) f g e =
 pub words-same : (p q : Program) → fits p ≡ true → fits q ≡ true → words p ≡ words q → p ≡ q
 unfolding words
 words-same p q f g e = program-same p q f g (words-back (instructions p) (instructions q) (program-instructions p f) (program-instructions q g) e)
+
+-- the reader has counted the program's timer rungs
+pub program-timers : (p : Program) → fits p ≡ true → (afterWords beginWords (words p)) .timers ≡ length (p .timers)
+unfolding words
+program-timers p f =
+    let r = program-accepted p 0 mostTimers f (omega arith) (fits-small p f) in
+    let q = accepted-program 0 mostTimers (instructions p) (omega arith) (omega arith) r in
+    ap (λ s. s .timers) (words-after (instructions p) beginWords (r .known)) ∙ sym (q .counts) ∙ ap (λ x. length (x .timers)) (program-same (q .program) p (q .fitting) f (q .listing))
 
 -- there is one place only
 pub place-same : (Accepts : List ℕ → Type 0) (Whole : ℕ → Type 0) (l : List ℕ) (k j : ℕ) → Place Accepts Whole l k → Place Accepts Whole l j → k ≡ j

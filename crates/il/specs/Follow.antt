@@ -8,7 +8,7 @@ use native.Mathlib.Decide.{decLe}
 use mathlib.Core.Bool.{Bool, true, false, _&&_, _||_, not, cond, false≢true, true≢false}
 use mathlib.Core.List.{List, [], _∷_, _++_, map, flatMap, headD}
 use lib.ListN.{length, getD, set, drop, length-set, length-map, List·getD-map}
-use lib.Seq.{set-set, set-out, getD-set-same, map-set-same}
+use lib.Seq.{set-out, map-set-same}
 use lib.Dec.{leb, eqb, ltb}
 use borrow.Author.Tests.{lt-ltb, le-ltb}
 use Rattle.meaning.specs.RowsLaws.{which, and-l, and-r, and-both}
@@ -22,6 +22,8 @@ use Rattle.meaning.specs.declared.Operand.{Operand}
 use Rattle.meaning.specs.declared.Operand.the-variants.{Mx, Ix, Qx, TimerQ, TimerIn, TimerPt, Timer, False, True}
 use Rattle.meaning.specs.declared.Operator.{Operator}
 use Rattle.meaning.specs.declared.Operator.the-variants.{Ld, Ldn, And, Andn, Or, Close, St, S, R, Cal, LdTime}
+use Rattle.meaning.specs.TimerLaws.{changed-twice}
+use Rattle.meaning.specs.ExecuteLaws.{executed-append}
 use Rattle.format.specs.declared.Decoded.{Decoded}
 use Rattle.format.specs.declared.Decoded.the-variants.{Known, Unknown}
 use Rattle.instruction.specs.declared.Running.{Running}
@@ -86,13 +88,6 @@ qs-set bs k b h g =
     let e : length (map (λ (c : Block). c .q) bs) ≡ length bs = length-map bs (λ (c : Block). c .q) in
     word-set (map (λ (c : Block). c .q) bs) k (b .q) (omega arith) (omega arith) ∙ ap wordOf (sym (map-set (λ (c : Block). c .q) bs k b))
 
-changed-twice : (bs : List Block) (n : ℕ) (f g : Block → Block) → changed (changed bs n f) n g ≡ changed bs n (λ b. g (f b))
-unfolding changed blockAt
-changed-twice bs n f g = elim (decLe (length bs) (n - 1)) [
-  | yes h ↦ rw (set-out bs (n - 1) (f (getD bs (n - 1) blank)) h, set-out bs (n - 1) (g (getD bs (n - 1) blank)) h, set-out bs (n - 1) (g (f (getD bs (n - 1) blank))) h)
-  | no h ↦ rw (getD-set-same bs (n - 1) (f (getD bs (n - 1) blank)) blank (omega arith), set-set)
-]
-
 -- IN, PT and CAL of a block, one after the other
 changed-thrice : (d : ℕ) (bs : List Block) (n : ℕ) (r : Bool) (t : ℕ)
     → changed (changed (changed bs n (withIn r)) n (withPt t)) n (ton d) ≡ set bs (n - 1) (calledWith d r t (getD bs (n - 1) blank))
@@ -117,17 +112,12 @@ module _ (d x : ℕ) where
   ran-append [] js w = refl
   ran-append (i ∷ is) js w = ran-append is js (oneWord d x (Known i) w)
 
-  executed-append : (is js : List Operator) (v : Within) → executedAll d x (is ++ js) v ≡ executedAll d x js (executedAll d x is v)
-  unfolding executedAll
-  executed-append [] js v = refl
-  executed-append (i ∷ is) js v = executed-append is js (executed d x i v)
-
   nothing : {a : List Bool} → Follows a [] a
   unfolding ranAll executedAll
   nothing w v h = h
 
   then : {a b c : List Bool} (is js : List Operator) → Follows a is b → Follows b js c → Follows a (is ++ js) c
-  then is js f g w v h = rw (ran-append is js w, executed-append is js v) (g _ _ (f w v h))
+  then is js f g w v h = rw (ran-append is js w, executed-append d x is js v) (g _ _ (f w v h))
 
   one : {a b : List Bool} (i : Operator) → ((w : Whole) (v : Within) → Same a w v → Same b (oneWord d x (Known i) w) (executed d x i v)) → Follows a (i ∷ []) b
   unfolding ranAll executedAll

@@ -13,10 +13,11 @@ use Rattle.meaning.specs.Scan.{Controller, Within, begun, executedAll, scanned,
 use Rattle.meaning.specs.declared.Block.{Block}
 use Rattle.meaning.specs.declared.Operator.{Operator}
 use Rattle.format.specs.Words.{words}
+use Rattle.format.specs.Passing.{program-instructions}
 use Rattle.instruction.specs.Effect.{qsOf}
 use Rattle.il.specs.Run.{Whole, wholeScan, begunWith, Computed}
 use Rattle.il.specs.Follow.{Same, Follows, program, ranAll}
-use Rattle.il.specs.Accepted.{program-known, scan-words}
+use Rattle.il.specs.Accepted.{scan-words}
 
 abbrev pub holding : List ℕ → List Block → Controller
 holding fs bs = record { flipFlops = fs; blocks = bs }
@@ -54,7 +55,7 @@ begin-same k h = record { result = refl; aside = refl; kept = refl; time = refl;
 scan-same : (d x : ℕ) (p : Program) (ws : List ℕ) (k : Controller) → Fitting p ws → length (k .blocks) ≤ 64 → Same [] (wholeFrom d x ws k) (executedAll d x (instructions p) (begun k))
 unfolding words wholeFrom
 scan-same d x p ws k f h =
-    rw (← f .list, scan-words d x (instructions p) (begunWith (k .flipFlops) (k .blocks)) (program-known p (f .program)))
+    rw (← f .list, scan-words d x (instructions p) (begunWith (k .flipFlops) (k .blocks)) (program-instructions p (f .program)))
     (program d x p (f .program) _ _ (begin-same k h))
 
 pub scan-right : (d x : ℕ) (p : Program) (ws : List ℕ) (k : Controller) → Fitting p ws → length (k .blocks) ≤ 64

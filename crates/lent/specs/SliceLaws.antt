@@ -1,30 +1,30 @@
--- A slice that passes stands for a valid state, and the code's tests are the definition's.
+-- Codes that pass stand for a memory, and the code's tests are the definition's.
 use mathlib.Core.Path.{_≡_, refl, sym, ap, ap₂, _∙_}
 use mathlib.Core.Logic.{_≢_, inl, inr}
-use Prim.Native.Nat.{ℕ, zero, suc, _+_, _-_, _*_, _/_, _%_, _≤_, _<_}
+use Prim.Native.Nat.{ℕ, zero, suc, _+_, _-_, _≤_, _<_}
 use native.Mathlib.Omega.{arith}
-use native.Mathlib.Nat.{zero-add, div-add-mod', le-of-mul-le-mul-right}
+use native.Mathlib.Nat.{zero-add}
 use native.Mathlib.Decide.{decLe}
-use mathlib.Core.Bool.{Bool, true, false, not, cond, _&&_, _||_, true≢false}
+use mathlib.Core.Bool.{Bool, true, false, not, cond, true≢false, and-false}
 use mathlib.Core.List.{List, [], _∷_, _++_, append-assoc, append-nil}
 use lib.ListN.{length, getD, take, drop, length-drop}
 use lib.Seq.{getD-take, getD-drop, length-take-le, ext-getD}
-use lib.Dec.{eqb, leb, ltb}
-use borrow.Author.Tests.{eq-eqb, ne-eqb, lt-ltb, le-ltb, eqb-true, leb-true, ltb-true, not-true, not-false}
+use lib.Dec.{eqb, ltb}
+use borrow.Author.Tests.{eq-eqb, ne-eqb, lt-ltb, le-ltb, eqb-true, ltb-true}
 use Rattle.meaning.specs.Rows.{least, some, every, count}
-use Rattle.meaning.specs.RowsLaws.{which, and-l, and-r, some-no, some-yes, least-to, least-before, least-passes, least-none, every-yes, count-past, length-table}
-use Rattle.meaning.specs.Tables.{Tables, stateCount, timerCount, initial, preset, steps}
+use Rattle.meaning.specs.RowsLaws.{which, and-l, some-no, some-yes, least-to, least-before, least-passes, least-none, every-yes, count-past, length-table, some-same}
+use Rattle.meaning.specs.Tables.{Tables, stateCount, timerCount, preset, steps, initial}
 use Rattle.meaning.specs.Hierarchy.{leaf, runs}
-use Rattle.meaning.specs.HierarchyLaws.{sub-state-tells, leaf-tells, no-leaf-tells}
+use Rattle.meaning.specs.HierarchyLaws.{sub-state-tells}
 use Rattle.meaning.specs.Layout.{code}
 use Rattle.meaning.specs.Rules.{Rules}
-use Rattle.meaning.specs.TreeLaws.{initial-leaf, initial-sub}
+use Rattle.meaning.specs.RuleLaws as rule
 use Rattle.meaning.specs.FollowLaws.{super-known}
-use Rattle.meaning.specs.Machine.{Valid, remembered, timerValue, activeLeaf}
+use Rattle.meaning.specs.Machine.{remembered, timerValue, activeLeaf}
 use Rattle.meaning.specs.MachineLaws.{Sound, remembered-table}
 use Rattle.meaning.specs.Lent.{superStatesBelow, lentLength, coded, lentCode, lentMemory, stateOf, lentCodes, codePasses, timerPasses, statePasses}
 use Rattle.paths.specs.Flags.{Paired}
-use Rattle.paths.specs.FlagsLaws.{some-same, and-no, remembered-take}
+use Rattle.paths.specs.FlagsLaws.{remembered-take}
 use Rattle.layout.specs.Laid.{LaidOut}
 use Rattle.layout.specs.LaidLaws.{code-at}
 use Rattle.layout.specs.declared.Layout.{Layout}
@@ -72,10 +72,7 @@ codes-same c cs m m′ (suc n) h = ap₂ _++_ (codes-same c cs m m′ n (λ a z.
 
 module _ (c : Tables) (R : Rules c) where
   pub leaf-initial : (a : ℕ) → a < stateCount c → leaf c a ≡ eqb (initial c a) 0
-  leaf-initial a h = elim (which (leaf c a)) [
-    | inl e ↦ e ∙ sym (eq-eqb (initial c a) 0 (initial-leaf c R a h e))
-    | inr e ↦ e ∙ sym (ne-eqb (initial c a) 0 (initial-sub c R a h e .notRoot))
-  ]
+  leaf-initial a h = rule.leaf-initial c a (rule.initial-tells c a .1 (R .initials a h))
 
   -- what is remembered is a state exactly where the code passes
   pub code-passes : (l : List ℕ) (a : ℕ) → codePasses c l a ≡ ltb (entryOf c l a) (stateCount c)
@@ -138,7 +135,7 @@ module _ (c : Tables) (R : Rules c) where
 
   pub wrong-codes : (l : List ℕ) → every (codePasses c l) 0 (stateCount c) ≡ false → statePasses c l ≡ false
   unfolding statePasses
-  wrong-codes l e = rw (e, and-no (eqb (length l) (lentLength c)))
+  wrong-codes l e = rw (e, and-false (eqb (length l) (lentLength c)))
 
   pub right-codes : (l : List ℕ) → length l ≡ lentLength c → every (codePasses c l) 0 (stateCount c) ≡ true → statePasses c l ≡ every (timerPasses c (stateOf c l)) 1 (timerCount c)
   unfolding statePasses
@@ -153,41 +150,6 @@ module _ (c : Tables) (R : Rules c) where
   unfolding lentMemory
   entries-pass l m e = every-same (λ a. ltb (remembered m a) (stateCount c)) (codePasses c l) (stateCount c) (λ k h.
       sym (code-passes l k ∙ ap (λ x. ltb x (stateCount c)) (sym (sym (remembered-take m (stateCount c) k h) ∙ ap (λ x. remembered x k) e ∙ remembered-table (entryOf c l) (stateCount c) k h))))
-
-  -- a slice that passes stands for a valid state
-  pub state-valid : (l : List ℕ) → statePasses c l ≡ true → Valid c (stateOf c l)
-  unfolding statePasses stateOf lentLength
-  state-valid l e = record {
-    entries = S .entries;
-    leads = (λ a h n. S .leads a (no-leaf-tells c a .1 n));
-    leafEntries = (λ a h n. S .leafEntries a h (leaf-tells c a .1 n));
-    values = length-drop (superStatesBelow c (stateCount c)) l ∙ omega (arith, long);
-    whole = (λ t p q. whole-steps t (and-l _ _ (at-timer t p q)));
-    idle = (λ t p q f. idle-zero t f (and-r (eqb (value t % c .step) 0 && leb (value t) (steps c t * c .step)) _ (at-timer t p q)));
-  }
-    where
-      value : ℕ → ℕ
-      value t = timerValue (drop (superStatesBelow c (stateCount c)) l) t
-
-      long : length l ≡ superStatesBelow c (stateCount c) + timerCount c
-      long = unfold statePasses lentLength in (eqb-true (length l) _ (and-l _ _ (and-l _ _ e)))
-
-      S : Sound c (lentMemory c l)
-      S = unfold statePasses in (codes-sound l (and-r (eqb (length l) (lentLength c)) _ (and-l _ _ e)))
-
-      at-timer : (t : ℕ) → 1 ≤ t → t ≤ timerCount c
-          → (eqb (value t % c .step) 0 && leb (value t) (steps c t * c .step) && (runs c t (activeLeaf c (lentMemory c l)) || eqb (value t) 0)) ≡ true
-      at-timer t p q = unfold statePasses timerPasses stateOf in (not-false _ (some-no (λ k. not (timerPasses c (stateOf c l) k)) 1 (timerCount c)
-          (not-true _ (and-r (eqb (length l) (lentLength c) && every (codePasses c l) 0 (stateCount c)) _ e)) t p (omega arith)))
-
-      whole-steps : (t : ℕ) → (eqb (value t % c .step) 0 && leb (value t) (steps c t * c .step)) ≡ true → (k : ℕ) × (k ≤ steps c t) × (value t ≡ k * c .step)
-      whole-steps t f =
-          let z = eqb-true (value t % c .step) 0 (and-l _ _ f) in
-          let v : value t ≡ value t / c .step * c .step = omega (arith, div-add-mod' (value t) (c .step)) in
-          (value t / c .step, le-of-mul-le-mul-right (rw v at (leb-true (value t) (steps c t * c .step) (and-r (eqb (value t % c .step) 0) _ f))) (R .size .someStep), v)
-
-      idle-zero : (t : ℕ) → runs c t (activeLeaf c (lentMemory c l)) ≡ false → (runs c t (activeLeaf c (lentMemory c l)) || eqb (value t) 0) ≡ true → value t ≡ 0
-      idle-zero t f g = eqb-true (value t) 0 (rw f at g)
 
   -- ---- to the slice
 

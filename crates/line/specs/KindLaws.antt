@@ -3,12 +3,11 @@ use mathlib.Core.Path.{_≡_, refl, sym, ap, _∙_}
 use mathlib.Core.Logic.{inl, inr}
 use Prim.Native.Nat.{ℕ, suc, _≤_, _<_}
 use native.Mathlib.Omega.{arith}
-use mathlib.Core.Bool.{Bool, true, false, _||_, false≢true}
+use mathlib.Core.Bool.{Bool, true, false, _||_, false≢true, or-false}
 use mathlib.Core.List.{List, [], _++_, append-nil, append-assoc}
 use lib.Dec.{leb}
 use borrow.Author.Tests.{le-leb, leb-true}
-use Rattle.meaning.specs.RowsLaws.{and-both, or-cases}
-use Rattle.meaning.specs.Literals.{between}
+use Rattle.meaning.specs.RowsLaws.{or-cases, or-l}
 use Rattle.meaning.specs.Programs.{testable, constant, flipFlopFits, outputFits}
 use Rattle.meaning.specs.declared.Operand.{Operand}
 use Rattle.meaning.specs.declared.Operand.the-variants.{Mx, Ix, Qx, TimerQ, TimerIn, TimerPt, Timer, False, True}
@@ -18,17 +17,12 @@ use Rattle.format.specs.declared.Line.{Line}
 use Rattle.format.specs.declared.Line.the-variants.{Header, Var, Block, EndVar, Says, EndProgram, Unknown}
 use Rattle.format.specs.Text.{bytes, decimal, operandText, operatorText}
 use Rattle.format.specs.Decode.{inputFits, blockFits, instruction}
-use Rattle.format.specs.DecodeLaws.{within, or-false}
+use Rattle.format.specs.DecodeLaws.{within, in-range}
 use Rattle.format.specs.Lines.{lineText, lineFits, said}
 use Rattle.format.specs.LineLaws.{said-is, said-none}
 use Rattle.line.specs.declared.Number.the-variants as N
 use Rattle.line.specs.declared.Named.the-variants as O
 use Rattle.line.specs.Forms.{Same, Spells, Names, operatorKind, kind, Beyond}
-
--- ---- a number's range, as tests ask it
-
-in-range : (a b n : ℕ) → a ≤ n → n ≤ b → between a b n ≡ true
-in-range a b n h k = and-both _ _ (le-leb a n h) (le-leb n b k)
 
 -- ---- what tests are on
 
@@ -62,9 +56,6 @@ module _ {l : List ℕ} (mx : Spells (bytes "%MX") [] 0 255 l N.Nothing) (ix : S
 
 found : (l : List ℕ) (t : Line) → lineFits t ≡ true → lineText t ≡ l → t ≡ said l
 found l t f e = sym (said-is l t f e)
-
-or-left : (a b : Bool) → a ≡ true → (a || b) ≡ true
-or-left a b e = rw e
 
 module _ {l : List ℕ} {n : ℕ} where
   pub store-mx : Spells (bytes "ST %MX") [] 0 255 l (N.Is n) → Says (St (Mx n)) ≡ said l
@@ -118,7 +109,7 @@ module _ {l : List ℕ} {o : Operand} where
 
   pub load-test : Names (bytes "LD ") (testable 32) l (O.Is o) → Says (Ld o) ≡ said l
   unfolding lineFits lineText instruction operatorText
-  load-test s = found l (Says (Ld o)) (or-left (testable 32 o) (constant o) (s .0)) (s .1)
+  load-test s = found l (Says (Ld o)) (or-l (testable 32 o) (constant o) (s .0)) (s .1)
 
 module _ {l : List ℕ} where
   pub load-or : bytes "OR(" ≡ l → Says Or ≡ said l

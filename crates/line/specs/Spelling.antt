@@ -1,23 +1,19 @@
 -- Reading a decimal byte by byte: what is known in front of each byte, and why there may be no decimal.
 use mathlib.Core.Path.{_≡_, refl, sym, ap, ap₂, _∙_}
 use mathlib.Core.Logic.{inl, inr}
-use Prim.Native.Nat.{ℕ, zero, suc, _+_, _*_, _-_, _/_, _%_, _^_, _≤_, _<_}
-use native.Mathlib.Nat.{pow-suc}
+use Prim.Native.Nat.{ℕ, suc, _+_, _*_, _-_, _≤_, _<_}
 use native.Mathlib.Omega.{arith}
 use native.Mathlib.Decide.{decLe}
 use mathlib.Core.Bool.{false}
-use mathlib.Core.List.{List, [], _∷_, _++_, append-nil, append-assoc}
+use mathlib.Core.List.{List, [], _∷_, _++_, append-nil}
 use lib.ListN.{length, getD, take, drop, drop-of-length-le}
 use lib.Seq.{take-suc, drop-cons, length-take-le, getD-take}
-use lib.Dec.{ltb}
-use borrow.Author.Tests.{le-leb, ltb-true, ltb-false}
 use Rattle.meaning.specs.RowsLaws.{which}
 use Rattle.meaning.specs.Literals.{between}
-use Rattle.format.specs.Text.{digits, decimal}
+use Rattle.format.specs.Text.{decimal}
 use Rattle.format.specs.Lines.{leading}
-use Rattle.format.specs.LineLaws.{leading-decimal}
 use Rattle.format.specs.DecodeLaws.{within}
-use Rattle.lines.specs.Decimals.{decimal-small, decimal-more}
+use Rattle.format.specs.Decimals.{decimal-small, decimal-more, no-leading-zero, leading-yes, leading-decimal}
 
 -- the first i bytes of l are a decimal of n, where i is not 0
 pub record Spelling (l : List ℕ) (i n : ℕ) : Type 0 where
@@ -28,10 +24,6 @@ pub record Spelling (l : List ℕ) (i n : ℕ) : Type 0 where
 
 pub spelling-none : (l : List ℕ) → Spelling l 0 0
 spelling-none l = record { within = omega arith; value = refl; start = λ e. refl; front = λ h. absurd (omega arith) }
-
-leading-yes : (n b : ℕ) (r : List ℕ) → 48 ≤ b → b ≤ 57 → leading n (b ∷ r) ≡ leading (10 * n + (b - 48)) r
-unfolding leading
-leading-yes n b r h k = rw (leading, le-leb 48 b h, le-leb b 57 k)
 
 leading-no : (n b : ℕ) (r : List ℕ) → between 48 57 b ≡ false → leading n (b ∷ r) ≡ record { number = n; rest = b ∷ r }
 unfolding leading
@@ -48,26 +40,6 @@ leading-grows (b ∷ r) n = elim (which (between 48 57 b)) [
   | inl e ↦ rw (leading, e) (omega (arith, leading-grows r (10 * n + (b - 48))))
   | inr e ↦ rw (leading, e) (omega arith)
 ]
-
-decimal-next : (n d : ℕ) → 1 ≤ n → n ≤ 86400000 → d < 10 → decimal (10 * n + d) ≡ decimal n ++ ((48 + d) ∷ [])
-decimal-next n d h k f =
-    let e : (10 * n + d) / 10 ≡ n = omega arith in
-    let g : (10 * n + d) % 10 ≡ d = omega arith in
-    rw (e, g) at (decimal-more (10 * n + d) (omega arith) (omega arith))
-
-first-zero : (k m : ℕ) (r : List ℕ) → m < 10 ^ suc k → getD (digits k m ++ r) 0 0 ≡ 48 → m ≡ 0
-unfolding digits
-first-zero zero m r h e = omega arith
-first-zero (suc k) m r h e = elim (which (ltb m 10)) [
-  | inl f ↦ (let g : 48 + m % 10 ≡ 48 = rw (digits, f) at e in omega (arith, ltb-true m 10 f))
-  | inr f ↦ (let g : getD (digits k (m / 10) ++ ((48 + m % 10) ∷ r)) 0 0 ≡ 48 = rw append-assoc at (rw (digits, f) at e) in
-      absurd (omega (arith, first-zero k (m / 10) ((48 + m % 10) ∷ r) (omega (arith, pow-suc 10 (suc k))) g, ltb-false m 10 f)))
-]
-
--- "Numbers have no leading zero."
-no-leading-zero : (m : ℕ) → m ≤ 86400000 → getD (decimal m) 0 0 ≡ 48 → m ≡ 0
-unfolding decimal
-no-leading-zero m h e = first-zero 19 m [] (omega arith) (ap (λ l. getD l 0 0) (append-nil (digits 19 m)) ∙ e)
 
 module _ {l : List ℕ} {i n : ℕ} (s : Spelling l i n) where
   -- what a decimal of m would be
@@ -96,7 +68,7 @@ module _ {l : List ℕ} {i n : ℕ} (s : Spelling l i n) where
       value = s .value ∙ ap (leading n) (drop-cons l i 0 h) ∙ leading-yes n (getD l i 0) (drop (suc i) l) p q;
       start = λ e. absurd (omega arith);
       front = λ f. elim (decLe 1 i) [
-        | yes g ↦ decimal-next n (getD l i 0 - 48) (z g) k (omega arith) ∙ ap₂ (λ x y. x ++ (y ∷ [])) (s .front g) back ∙ sym (take-suc l i 0 h)
+        | yes g ↦ decimal-more n (getD l i 0 - 48) (z g) (omega arith) (omega arith) ∙ ap₂ (λ x y. x ++ (y ∷ [])) (s .front g) back ∙ sym (take-suc l i 0 h)
         | no g ↦ (let y : i ≡ 0 = omega arith in
             let w : 10 * n + (getD l i 0 - 48) ≡ getD l i 0 - 48 = omega (arith, s .start y) in
             ap decimal w ∙ decimal-small (getD l i 0 - 48) (omega arith) ∙ ap (λ x. x ∷ []) back ∙ sym (take-suc l i 0 h ∙ ap (λ j. take j l ++ (getD l i 0 ∷ [])) y))
@@ -115,4 +87,4 @@ module _ {l : List ℕ} {i n : ℕ} (s : Spelling l i n) where
     no-zero p z m k e =
         let d : take i l ≡ 48 ∷ [] = sym (s .front p) ∙ ap decimal z ∙ decimal-small 0 (omega arith) in
         let f : getD (decimal m) 0 0 ≡ 48 = ap (λ x. getD x 0 0) e ∙ sym (getD-take i l 0 0 p) ∙ ap (λ x. getD x 0 0) d in
-        omega (arith, ap length d, length-take-le i l (s .within), ap length (sym (ap decimal (no-leading-zero m k f) ∙ decimal-small 0 (omega arith)) ∙ e))
+        omega (arith, ap length d, length-take-le i l (s .within), ap length (sym (ap decimal (no-leading-zero m (omega arith) f) ∙ decimal-small 0 (omega arith)) ∙ e))

@@ -1,3 +1,2 @@
 pub mod Put
-pub mod Decimals
 pub mod Declared

@@ -1,12 +1,12 @@
 -- What a writer leaves: the word w over the list l from the place i on, as far as l goes, and the next place, up to the largest.
 use mathlib.Core.Path.{_≡_, refl, ap, sym, _∙_}
-use mathlib.Core.List.{List, [], _∷_, _++_}
-use Prim.Native.Nat.{ℕ, zero, suc, _+_, _-_, _^_, _≤_, _<_, min}
-use native.Mathlib.Nat.{add-zero, add-suc, suc-add}
+use mathlib.Core.List.{List, [], _++_}
+use Prim.Native.Nat.{ℕ, zero, _+_, _-_, _^_, _≤_, _<_, min}
 use native.Mathlib.Decide.{decLe}
 use native.Mathlib.Omega.{arith}
-use lib.ListN.{length, set, length-append, length-set}
-use lib.Seq.{sets, set-out, length-sets}
+use lib.ListN.{length, length-append, length-set}
+use lib.Seq.{sets, length-sets}
+use Rattle.meaning.specs.RowsLaws.{sets-append, sets-out}
 use Rattle.format.specs.Text.{decimal}
 
 abbrev most : ℕ
@@ -18,20 +18,11 @@ pub record Put (l : List ℕ) (i : ℕ) (w m : List ℕ) (r : ℕ) : Type 0 wher
   pub list : m ≡ sets l i w
   pub next : r ≡ min (i + length w) most
 
-sets-append : (v l : List ℕ) (i : ℕ) (w : List ℕ) → sets l i (v ++ w) ≡ sets (sets l i v) (i + length v) w
-sets-append [] l i w = rw add-zero
-sets-append (b ∷ v) l i w = rw (add-suc i (length v), ← suc-add i (length v)) (sets-append v (set l i b) (suc i) w)
-
--- past the end nothing is written
-sets-out : (w l : List ℕ) (i : ℕ) → length l ≤ i → sets l i w ≡ l
-sets-out [] l i h = refl
-sets-out (b ∷ w) l i h = rw (set-out l i b h) (sets-out w l (suc i) (omega arith))
-
 -- a place beyond the largest is beyond every list
 sets-most : (l : List ℕ) (i : ℕ) (w : List ℕ) → length l ≤ most → sets l (min i most) w ≡ sets l i w
 sets-most l i w h = elim (decLe i most) [
   | yes p ↦ (let e : min i most ≡ i = omega arith in rw e)
-  | no f ↦ sets-out w l (min i most) (omega arith) ∙ sym (sets-out w l i (omega arith))
+  | no f ↦ sets-out l (min i most) w (omega arith) ∙ sym (sets-out l i w (omega arith))
 ]
 
 -- two writers in a row

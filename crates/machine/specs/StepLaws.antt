@@ -10,16 +10,16 @@ use lib.ListN.{length, getD, set, take}
 use lib.Seq.{getD-take, length-take-le, take-suc, take-suc-set}
 use lib.Dec.{leb, ltb}
 use Rattle.meaning.specs.Rows.{some, least, table}
+use Rattle.meaning.specs.RowsLaws.{least-same}
 use Rattle.meaning.specs.Tables.{Tables, mostStates, stateCount, moveCount, timerCount, pairCount, source, preset, steps}
 use Rattle.meaning.specs.Hierarchy.{runs, outputOn, paired}
-use Rattle.meaning.specs.Literals.{inputOn, literalsHold}
+use Rattle.meaning.specs.Literals.{literalsHold}
 use Rattle.meaning.specs.Rules.{Rules}
 use Rattle.meaning.specs.Machine.{State, Valid, seen, trace, after, timerValue, activeLeaf, enabled, chosen, expired, timed, setting, memoryAfter, moved, step, wordOf, seenAt}
-use Rattle.meaning.specs.MachineLaws.{Sound, least-same, valid-sound, after-step, moved-sound, trace-append, after-append}
+use Rattle.meaning.specs.MachineLaws.{Sound, valid-sound, after-step, moved-sound, trace-append, after-append, chosen-same}
 use Rattle.paths.specs.Flags.{on, Path, Paired, rowOn, expiredAt}
 use Rattle.paths.specs.FlagsLaws.{rows-paired, is-table}
 use Rattle.moving.specs.Moves.{read, enabledOn}
-use Rattle.moving.specs.ChoiceLaws.{chosen-same}
 use Rattle.machine.specs.Held.{Scanned, held, longest, grown}
 
 table-same : {A : Type 0} (f g : ℕ → A) (i n : ℕ) → ((k : ℕ) → i ≤ k → k < i + n → f k ≡ g k) → table f i n ≡ table g i n
@@ -47,7 +47,7 @@ module _ (c : Tables) (R : Rules c) where
   unfolding setting chosen enabled
   chosen-on x m ts fs rs es p q f =
       least-same (enabledOn c fs (read x es)) (enabled c (read x es) (activeLeaf c (take (stateCount c) m))) 0 (moveCount c) (λ k a b. ap (λ d. d && literalsHold c (read x es) k) (p (source c k) (source-known k (omega arith))))
-      ∙ chosen-same c R (inputOn x) (on es) (expired c (activeLeaf c (take (stateCount c) m)) (take (timerCount c) ts)) same (activeLeaf c (take (stateCount c) m))
+      ∙ chosen-same c R (read x es) (setting c x (held c m ts)) (λ i a b. refl) same (activeLeaf c (take (stateCount c) m))
     where
       row : (i : ℕ) → i < timerCount c → on es (suc i) ≡ expired c (activeLeaf c (take (stateCount c) m)) (take (timerCount c) ts) (suc i)
       row i h = unfold expired runs preset timerValue in (

@@ -1,18 +1,18 @@
 -- The machine of an accepted chart: its states stay valid, and a step looks at no input bit beyond the count.
 use mathlib.Core.Path.{_≡_, refl, sym, ap, _∙_}
 use mathlib.Core.Logic.{inl, inr}
-use Prim.Native.Nat.{ℕ, zero, suc, _+_, _*_, _-_, _≤_, _<_}
+use Prim.Native.Nat.{ℕ, zero, suc, _*_, _-_, _≤_, _<_}
 use native.Mathlib.Nat.{zero-add, zero-mul, mul-le-mul-right}
 use native.Mathlib.Omega.{arith}
 use native.Mathlib.Decide.{decLe}
-use mathlib.Core.Bool.{Bool, true, false, _&&_, Bool·beq, and-false}
+use mathlib.Core.Bool.{true, false, _&&_, Bool·beq, and-false}
 use mathlib.Core.List.{List, [], _∷_, _++_}
 use lib.ListN.{length}
 use lib.IntN.{ℤ, natAbs}
 use lib.Dec.{ltb, eqb}
 use borrow.Author.Tests.{ltb-true, leb-true}
-use Rattle.meaning.specs.Rows.{least, table}
-use Rattle.meaning.specs.RowsLaws.{which, and-l, same-test, every-yes, every-intro, length-table, getD-table}
+use Rattle.meaning.specs.Rows.{table}
+use Rattle.meaning.specs.RowsLaws.{which, and-l, same-test, least-same, every-yes, every-intro, length-table, getD-table}
 use Rattle.meaning.specs.Tables.{Tables, literalPlaces, stateCount, moveCount, timerCount, initial, source, target, mark, literal, steps}
 use Rattle.meaning.specs.Hierarchy.{atOrAbove, above, leaf, runs}
 use Rattle.meaning.specs.HierarchyLaws.{leaf-tells, no-leaf-tells}
@@ -20,7 +20,7 @@ use Rattle.meaning.specs.Literals.{between, kindOf, wanted, Setting, hol
 use Rattle.meaning.specs.Rules.{WithinCounts, Rules}
 use Rattle.meaning.specs.TreeLaws.{initial-leaf}
 use Rattle.meaning.specs.Machine.{State, remembered, timerValue, follow, activeLeaf, enabled, chosen, guide, reached, entered, moved, expired, timed, start, setting, memoryAfter, step, seen, trace, after, Valid}
-use Rattle.meaning.specs.FollowLaws.{Leads, super-known, initial-leads, leaf-above, follow-ends, follow-known, follow-same, guide-leads, entered-leads, arrives, stays}
+use Rattle.meaning.specs.FollowLaws.{Leads, super-known, initial-leads, leaf-above, follow-ends, follow-same, guide-leads, entered-leads, arrives, stays}
 
 -- ---- for any tables
 
@@ -52,15 +52,6 @@ unfolding memoryAfter
 after-step c x s P p q =
     let i = chosen c (setting c x s) (activeLeaf c (s .memory)) in
     elim (which (ltb i (moveCount c))) [ inl e ↦ rw e (q i (ltb-true i (moveCount c) e)) | inr e ↦ rw e p ]
-
--- the least number to pass is the same for tests that agree
-pub least-same : (p q : ℕ → Bool) (i n : ℕ) → ((k : ℕ) → i ≤ k → k < i + n → p k ≡ q k) → least p i n ≡ least q i n
-unfolding least
-least-same p q i zero h = refl
-least-same p q i (suc n) h = elim (which (q i)) [
-  | inl e ↦ (let f : p i ≡ true = h i (omega arith) (omega arith) ∙ e in rw (least, e, f))
-  | inr e ↦ (let f : p i ≡ false = h i (omega arith) (omega arith) ∙ e in rw (least, e, f) (least-same p q (suc i) n (λ k a b. h k (omega arith) (omega arith))))
-]
 
 -- a value of so many whole scan steps is one after a step too
 timed-whole : (c : Tables) (l l′ : ℕ) (ts : List ℕ) (t : ℕ) → (k : ℕ) × (k ≤ steps c t) × (timerValue ts t ≡ k * c .step) → (k : ℕ) × (k ≤ steps c t) × (timed c l l′ ts t ≡ k * c .step)
@@ -166,11 +157,6 @@ module _ (c : Tables) (R : Rules c) where
       valid-of _ _ (after-step c x s (Sound c) S (moved-sound (s .memory) S)) (λ t p q. timed-whole c _ _ (s .timers) t (v .whole t p q)) (λ t e. unfold timed in (rw (e, and-false)))
 
   module _ (s : State) (v : Valid c s) where
-    -- the active leaf is a state
-    pub active-known : activeLeaf c (s .memory) < stateCount c
-    unfolding activeLeaf
-    active-known = follow-known c R _ (valid-sound s v .leads) 0 (R .size .someState)
-
     -- the active leaf is a leaf
     pub active-leaf : leaf c (activeLeaf c (s .memory)) ≡ true
     unfolding activeLeaf
@@ -187,44 +173,39 @@ module _ (c : Tables) (R : Rules c) where
   after-valid [] s v = v
   after-valid (x ∷ xs) s v = after-valid xs (step c x s) (step-valid x s v)
 
-  -- ---- bits above the input count
+  -- ---- what a choice depends on
 
-  -- settings that agree up to the count
-  module _ (p q e : ℕ → Bool) (same : (i : ℕ) → 1 ≤ i → i ≤ c .inputs → p i ≡ q i) where
-    abbrev one : Setting
-    one = record { input = p; expired = e }
-
-    abbrev two : Setting
-    two = record { input = q; expired = e }
-
-    holds-same : (z : ℤ) → WithinCounts c (kindOf (natAbs z)) → holds one z ≡ holds two z
+  -- settings that agree on the chart's inputs and timers
+  module _ (v w : Setting) (inputs : (i : ℕ) → 1 ≤ i → i ≤ c .inputs → v .input i ≡ w .input i) (timers : (t : ℕ) → 1 ≤ t → t ≤ timerCount c → v .expired t ≡ w .expired t) where
+    holds-same : (z : ℤ) → WithinCounts c (kindOf (natAbs z)) → holds v z ≡ holds w z
     unfolding holds holdsAs kindOf
     holds-same z k = elim (which (eqb (natAbs z) 0)) [
       | inl u ↦ rw (holds, kindOf, u)
       | inr u ↦ elim (which (between 1 64 (natAbs z))) [
-        | inl f ↦ rw (holds, kindOf, u, f) (ap (Bool·beq (wanted z)) (same (natAbs z) (leb-true 1 (natAbs z) (and-l _ _ f)) (rw (kindOf, u, f) at k)))
+        | inl f ↦ rw (holds, kindOf, u, f) (ap (Bool·beq (wanted z)) (inputs (natAbs z) (leb-true 1 (natAbs z) (and-l _ _ f)) (rw (kindOf, u, f) at k)))
         | inr f ↦ elim (which (between 101 132 (natAbs z))) [
-          | inl g ↦ rw (holds, kindOf, u, f, g)
+          | inl g ↦ (let low = leb-true 101 (natAbs z) (and-l _ _ g) in
+              rw (holds, kindOf, u, f, g) (ap (Bool·beq (wanted z)) (timers (natAbs z - 100) (omega arith) (rw (kindOf, u, f, g) at k))))
           | inr g ↦ rw (holds, kindOf, u, f, g)
         ]
       ]
     ]
 
-    literals-same : (i : ℕ) → i < moveCount c → literalsHold c one i ≡ literalsHold c two i
+    literals-same : (i : ℕ) → i < moveCount c → literalsHold c v i ≡ literalsHold c w i
     unfolding literalsHold
     literals-same i h = same-test _ _
-        (λ a. every-intro (λ j. holds two (literal c i j)) literalPlaces (λ j k. sym (at-place j k) ∙ every-yes (λ j. holds one (literal c i j)) literalPlaces a j k))
-        (λ a. every-intro (λ j. holds one (literal c i j)) literalPlaces (λ j k. at-place j k ∙ every-yes (λ j. holds two (literal c i j)) literalPlaces a j k))
+        (λ a. every-intro (λ j. holds w (literal c i j)) literalPlaces (λ j k. sym (at-place j k) ∙ every-yes (λ j. holds v (literal c i j)) literalPlaces a j k))
+        (λ a. every-intro (λ j. holds v (literal c i j)) literalPlaces (λ j k. at-place j k ∙ every-yes (λ j. holds w (literal c i j)) literalPlaces a j k))
       where
-        at-place : (j : ℕ) → j < literalPlaces → holds one (literal c i j) ≡ holds two (literal c i j)
+        at-place : (j : ℕ) → j < literalPlaces → holds v (literal c i j) ≡ holds w (literal c i j)
         at-place j k = holds-same (literal c i j) (R .literals i h .known j k)
 
-    -- settings that agree up to the input count choose the same move
-    chosen-same : (l : ℕ) → chosen c one l ≡ chosen c two l
+    -- choose the same move
+    pub chosen-same : (l : ℕ) → chosen c v l ≡ chosen c w l
     unfolding chosen enabled
-    chosen-same l = least-same (enabled c one l) (enabled c two l) 0 (moveCount c) (λ k a b. ap (λ d. atOrAbove c (source c k) l && d) (literals-same k (omega arith)))
+    chosen-same l = least-same (enabled c v l) (enabled c w l) 0 (moveCount c) (λ k a b. ap (λ d. atOrAbove c (source c k) l && d) (literals-same k (omega arith)))
 
   -- "bits above the count have no effect"
   pub bits-above : (x y : ℕ) → ((i : ℕ) → 1 ≤ i → i ≤ c .inputs → inputOn x i ≡ inputOn y i) → (s : State) → step c x s ≡ step c y s
   unfolding step memoryAfter setting
-  bits-above x y same s = rw (chosen-same (inputOn x) (inputOn y) (expired c (activeLeaf c (s .memory)) (s .timers)) same (activeLeaf c (s .memory)))
+  bits-above x y same s = rw (chosen-same (setting c x s) (setting c y s) same (λ t p q. refl) (activeLeaf c (s .memory)))

@@ -20,12 +20,13 @@ use Rattle.meaning.specs.LayoutLaws.{group-fits}
 use Rattle.meaning.specs.Rules.{Rules}
 use Rattle.meaning.specs.Machine.{State, remembered, activeLeaf, enabled, chosen, guide, moved, setting, memoryAfter, Valid}
 use Rattle.meaning.specs.FollowLaws.{Leads, super-known, guide-leads, entered-leads}
+use Rattle.meaning.specs.MachineLaws.{target-known}
 use Rattle.meaning.specs.OverlapLaws.{enabled-chosen, none-chosen}
 use Rattle.meaning.specs.Programs.{Body, Rung, all}
 use Rattle.meaning.specs.Scan.{Controller, Within, flipFlopOn, valueOf, stored, withFlipFlops, withResult}
 use Rattle.meaning.specs.Written.{stateTests, literalTests, andBody, orBody, chain, moveStores, rungWith, moveRungs, copyRungs}
 use Rattle.meaning.specs.Effects.{testPasses, partsAfter, bodyPasses, storeDone, storesDone, rungDone, rungsDone}
-use Rattle.meaning.specs.TestLaws.{Coded, any, any-no, any-table, all-table, Tells, valid-leads, target-known, move-passes}
+use Rattle.meaning.specs.TestLaws.{Coded, any, any-no, any-table, all-table, Tells, valid-leads, move-passes}
 use Rattle.meaning.specs.StoreLaws.{Bits, set-bits, same-code, Shows, Writes, moved-at, move-writes}
 use Rattle.meaning.specs.declared.Block.{Block}
 use Rattle.meaning.specs.declared.Operator.{Operator}

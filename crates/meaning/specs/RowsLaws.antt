@@ -1,13 +1,14 @@
--- Laws of Rows.antt, and of tests joined by `&&`.
+-- Laws of tests joined by `&&` and `||`, of Rows.antt, and of lists.
 use mathlib.Core.Path.{_≡_, refl, sym, ap, _∙_}
 use mathlib.Core.Logic.{_≢_, _⊎_, inl, inr, _↔_}
 use Prim.Native.Nat.{ℕ, zero, suc, _+_, _-_, _≤_, _<_}
-use native.Mathlib.Nat.{lt-of-lt-of-le, suc-add, add-suc}
+use native.Mathlib.Nat.{lt-of-lt-of-le, add-zero, suc-add, add-suc}
 use native.Mathlib.Omega.{arith}
 use native.Mathlib.Decide.{ℕ-discrete, decLe}
 use mathlib.Core.Bool.{Bool, true, false, not, cond, _&&_, _||_, true≢false, false≢true}
 use mathlib.Core.List.{List, [], _∷_, _++_, flatMap, append-nil, append-assoc}
-use lib.ListN.{length, getD}
+use lib.ListN.{length, getD, set, replicate, length-replicate, getD-replicate, List·getD-eq-default}
+use lib.Seq.{sets, set-out}
 use borrow.Author.Tests.{not-true, not-false}
 use Rattle.meaning.specs.Rows.{least, some, every, count, table}
 
@@ -45,6 +46,11 @@ true-not b e = rw e
 pub false-not : (b : Bool) → b ≡ false → not b ≡ true
 false-not b e = rw e
 
+-- a test that may not pass fails
+pub false-by : (b : Bool) → (b ≡ true → ⊥) → b ≡ false
+false-by true n = absurd (n refl)
+false-by false n = refl
+
 -- two tests that pass together are one
 pub same-test : (a b : Bool) → (a ≡ true → b ≡ true) → (b ≡ true → a ≡ true) → a ≡ b
 same-test true b f g = sym (f refl)
@@ -77,6 +83,32 @@ some-none p i (suc n) h = rw (some, h i (omega arith) (omega arith)) (some-none 
 pub some-intro : (p : ℕ → Bool) (i n k : ℕ) → i ≤ k → k < i + n → p k ≡ true → some p i n ≡ true
 some-intro p i n k a b e = elim (which (some p i n)) [ inl f ↦ f | inr f ↦ absurd (true≢false (sym e ∙ some-no p i n f k a b)) ]
 
+-- one row more
+pub some-more : (p : ℕ → Bool) (n : ℕ) → some p 0 (suc n) ≡ (some p 0 n || p n)
+some-more p n = same-test (some p 0 (suc n)) (some p 0 n || p n) there back
+  where
+    there : some p 0 (suc n) ≡ true → (some p 0 n || p n) ≡ true
+    there e = let r = some-yes p 0 (suc n) e in elim (which (p n)) [
+      | inl f ↦ or-r (some p 0 n) (p n) f
+      | inr f ↦ or-l (some p 0 n) (p n) (some-intro p 0 n (r .0) (omega arith)
+          (let z : r .0 ≡ n → ⊥ = λ e. true≢false (sym (r .3) ∙ ap p e ∙ f) in omega (arith, r .2, z)) (r .3))
+    ]
+
+    back : (some p 0 n || p n) ≡ true → some p 0 (suc n) ≡ true
+    back e = elim (or-cases (some p 0 n) (p n) e) [
+      | inl f ↦ (let r = some-yes p 0 n f in some-intro p 0 (suc n) (r .0) (omega arith) (omega (arith, r .2)) (r .3))
+      | inr f ↦ some-intro p 0 (suc n) n (omega arith) (omega arith) f
+    ]
+
+-- tests that agree
+pub some-same : (p q : ℕ → Bool) (i n : ℕ) → ((k : ℕ) → i ≤ k → k < i + n → p k ≡ q k) → some p i n ≡ some q i n
+unfolding some
+some-same p q i zero h = refl
+some-same p q i (suc n) h = let e = h i (omega arith) (omega arith) in elim (which (q i)) [
+  | inl f ↦ rw (some, e, f)
+  | inr f ↦ (let d : p i ≡ false = e ∙ f in rw (some, d, f) (some-same p q (suc i) n (λ k a b. h k (omega arith) (omega arith))))
+]
+
 -- all from 0 pass
 pub every-yes : (p : ℕ → Bool) (n : ℕ) → every p 0 n ≡ true → (k : ℕ) → k < n → p k ≡ true
 every-yes p n e k h = not-false (p k) (some-no (λ j. not (p j)) 0 n (not-true _ e) k (omega arith) (omega arith))
@@ -84,12 +116,11 @@ every-yes p n e k h = not-false (p k) (some-no (λ j. not (p j)) 0 n (not-true _
 pub every-intro : (p : ℕ → Bool) (n : ℕ) → ((k : ℕ) → k < n → p k ≡ true) → every p 0 n ≡ true
 every-intro p n h = false-not _ (some-none (λ j. not (p j)) 0 n (λ k a b. true-not (p k) (h k (omega arith))))
 
--- ---- least
+-- a row that does not pass
+pub every-no : (p : ℕ → Bool) (n k : ℕ) → k < n → p k ≡ false → every p 0 n ≡ false
+every-no p n k h e = true-not _ (some-intro (λ j. not (p j)) 0 n k (omega arith) (omega arith) (false-not (p k) e))
 
-pub least-from : (p : ℕ → Bool) (i n : ℕ) → i ≤ least p i n
-unfolding least
-least-from p i zero = omega arith
-least-from p i (suc n) = elim (which (p i)) [ inl e ↦ rw (least, e) (omega arith) | inr e ↦ rw (least, e) (omega (arith, least-from p (suc i) n)) ]
+-- ---- least
 
 pub least-to : (p : ℕ → Bool) (i n : ℕ) → least p i n ≤ i + n
 unfolding least
@@ -126,6 +157,15 @@ pub least-none : (p : ℕ → Bool) (i n : ℕ) → ((k : ℕ) → i ≤ k → k
 unfolding least
 least-none p i zero h = omega arith
 least-none p i (suc n) h = rw (least, h i (omega arith) (omega arith)) (least-none p (suc i) n (λ k a b. h k (omega arith) (omega arith)) ∙ omega arith)
+
+-- the least number to pass is the same for tests that agree
+pub least-same : (p q : ℕ → Bool) (i n : ℕ) → ((k : ℕ) → i ≤ k → k < i + n → p k ≡ q k) → least p i n ≡ least q i n
+unfolding least
+least-same p q i zero h = refl
+least-same p q i (suc n) h = elim (which (q i)) [
+  | inl e ↦ (let f : p i ≡ true = h i (omega arith) (omega arith) ∙ e in rw (least, e, f))
+  | inr e ↦ (let f : p i ≡ false = h i (omega arith) (omega arith) ∙ e in rw (least, e, f) (least-same p q (suc i) n (λ k a b. h k (omega arith) (omega arith))))
+]
 
 -- ---- count
 
@@ -195,6 +235,8 @@ unfolding table
 table-snoc f i zero = (let e : i + 0 ≡ i = omega arith in rw e)
 table-snoc f i (suc n) = (let e : i + suc n ≡ suc i + n = omega arith in rw e (ap (λ l. f i ∷ l) (table-snoc f (suc i) n)))
 
+-- ---- lists
+
 pub flatMap-append : {A B : Type 0} (f : A → List B) (xs ys : List A) → flatMap f (xs ++ ys) ≡ flatMap f xs ++ flatMap f ys
 unfolding flatMap
 flatMap-append f [] ys = refl
@@ -204,3 +246,22 @@ flatMap-append f (x ∷ xs) ys = rw (flatMap-append f xs ys) (sym (append-assoc 
 pub rows-snoc : {A : Type 0} (f : ℕ → List A) (i n : ℕ) → flatMap f (table (λ k. k) i (suc n)) ≡ flatMap f (table (λ k. k) i n) ++ f (i + n)
 unfolding flatMap
 rows-snoc f i n = ap (flatMap f) (table-snoc (λ k. k) i n) ∙ flatMap-append f (table (λ k. k) i n) ((i + n) ∷ []) ∙ ap (λ l. flatMap f (table (λ k. k) i n) ++ l) (append-nil (f (i + n)))
+
+-- a list of no elements
+pub no-length : {A : Type 0} (l : List A) → length l ≡ 0 → l ≡ []
+no-length [] e = refl
+no-length (x ∷ l) e = absurd (omega arith)
+
+-- equal elements, at every place
+pub getD-equal : {A : Type 0} (a : A) (n i : ℕ) → getD (replicate n a) i a ≡ a
+getD-equal a n i = elim (decLe (suc i) n) [ yes h ↦ getD-replicate n i a a h | no h ↦ List·getD-eq-default (replicate n a) a {n = i} (omega (arith, length-replicate n a)) ]
+
+-- two runs of stores in a row
+pub sets-append : {A : Type 0} (v l : List A) (i : ℕ) (w : List A) → sets l i (v ++ w) ≡ sets (sets l i v) (i + length v) w
+sets-append [] l i w = rw add-zero
+sets-append (b ∷ v) l i w = rw (add-suc i (length v), ← suc-add i (length v)) (sets-append v (set l i b) (suc i) w)
+
+-- past the end nothing is stored
+pub sets-out : {A : Type 0} (l : List A) (i : ℕ) (w : List A) → length l ≤ i → sets l i w ≡ l
+sets-out l i [] h = refl
+sets-out l i (b ∷ w) h = rw (set-out l i b h) (sets-out l (suc i) w (omega arith))

@@ -1,18 +1,19 @@
 -- Each test of Check.antt says what its rule of Rules.antt says in words, for any tables.
-use mathlib.Core.Path.{_≡_, refl, ap, _∙_}
+use mathlib.Core.Path.{_≡_, refl, sym, ap, _∙_}
 use mathlib.Core.Logic.{_≢_, _⊎_, inl, inr, _↔_}
 use Prim.Native.Nat.{ℕ, _-_, _≤_, _<_}
 use native.Mathlib.Omega.{arith}
 use native.Mathlib.Decide.{ℕ-discrete}
 use mathlib.Core.Bool.{true, false≢true}
 use mathlib.Core.List.{List}
+use lib.Dec.{eqb}
 use lib.IntN.{ℤ, pos, negsuc, natAbs}
-use borrow.Author.Tests.{eqb-true, eq-eqb, lt-ltb, ltb-true, leb-true, le-leb}
-use Rattle.meaning.specs.RowsLaws.{and-l, and-r, and-both}
+use borrow.Author.Tests.{eqb-true, eq-eqb, ne-eqb, lt-ltb, ltb-true, leb-true, le-leb}
+use Rattle.meaning.specs.RowsLaws.{which, and-l, and-r, and-both}
 use Rattle.meaning.specs.Tells.{and-tells, or-tells, not-tells, cond-tells, implies-tells, some-tells, every-tells, eqb-tells, ltb-tells, leb-tells}
 use Rattle.meaning.specs.Tables.{Tables, mostDepth, literalPlaces}
 use Rattle.meaning.specs.Tables.{stateCount, timerCount, superState, initial, cell, source, target, literal, pairNumber, pairState}
-use Rattle.meaning.specs.Hierarchy.{depth}
+use Rattle.meaning.specs.Hierarchy.{depth, subState, leaf}
 use Rattle.meaning.specs.HierarchyLaws.{at-or-above-tells, sub-state-tells, leaf-tells, runs-tells, depth-tells}
 use Rattle.meaning.specs.Literals.{kindOf}
 use Rattle.meaning.specs.Rules.{AtOrAbove, Leaf, Runs, WithinCounts, SizeRule, HierarchyRule, InitialRule, PresetRule, PairRule, MoveRule, LiteralRule, IdleRule, OverlapRule, FlipFlopRule}
@@ -43,6 +44,16 @@ unfolding initialPasses
 initial-tells c s =
     let t = cond-tells (leaf-tells c s) (eqb-tells (initial c s) 0) (sub-state-tells c s (initial c s)) in
     ((λ e. record { ofLeaf = t .0 e .0; ofSuper = t .0 e .1 }), (λ r. t .1 (r .ofLeaf, r .ofSuper)))
+
+-- "A state without sub-states is a leaf and has initial 0", and another has not
+pub leaf-initial : (c : Tables) (s : ℕ) → initialPasses c s ≡ true → leaf c s ≡ eqb (initial c s) 0
+unfolding initialPasses subState
+leaf-initial c s e = elim (which (leaf c s)) [
+  | inl f ↦ f ∙ sym (rw f at e)
+  | inr f ↦ (let g : subState c s (initial c s) ≡ true = rw f at e in
+      let h = ltb-true 0 (initial c s) (search (and-l, and-r)) in
+      f ∙ sym (ne-eqb (initial c s) 0 (λ z. omega arith)))
+]
 
 -- 4 PRESET: of a timer
 pub preset-tells : (c : Tables) (i : ℕ) → (presetPasses c i ≡ true) ↔ PresetRule c i

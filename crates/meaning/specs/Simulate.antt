@@ -20,11 +20,12 @@ use Rattle.meaning.specs.Stands.{nextCall, StandsFor, shownLeaf}
 use Rattle.meaning.specs.Effects.{rungsDone, timerRungsDone, programDone}
 use Rattle.meaning.specs.TestLaws.{any, Coded, Tells, codes-coded}
 use Rattle.meaning.specs.StoreLaws.{Bits}
-use Rattle.meaning.specs.StandsLaws.{timer-at, shown-follows}
+use Rattle.meaning.specs.StandsLaws.{shown-follows}
 use Rattle.meaning.specs.MoveLaws.{Amid, Copied, rungs-append, after-leads, all-moves-done, moves-known, moves-there, copies-done, copied-codes}
 use Rattle.meaning.specs.TimerLaws.{Called, timers-done, call-tells, call-again}
 use Rattle.meaning.specs.OutputLaws.{Lit, outputs-done, lit-word}
 use Rattle.meaning.specs.declared.Block.{Block}
+use Rattle.meaning.specs.MachineLaws.{timer-table}
 
 -- what a scan leaves in w, from the controller k that stands for s
 pub record Simulated (c : Tables) (x : ℕ) (k : Controller) (s : State) (w : Within) : Type 0 where
@@ -111,7 +112,7 @@ module _ (c : Tables) (R : Rules c) where
       next : (t : ℕ) → 1 ≤ t → t ≤ timerCount c → (nextCall c (step c x s) t (blockAt (w1 .controller .blocks) t)) .et ≡ min (timerValue ((step c x s) .timers) t) (preset c t)
       next t l u =
           ap (λ b. (nextCall c (step c x s) t b) .et) (T .done t l (omega arith)) ∙ call-again c R s (step c x s) t (blockAt (k .blocks) t) (S .blocks t l u)
-          ∙ ap (λ v. min v (preset c t)) (sym (timer-at (timed c (activeLeaf c (s .memory)) (activeLeaf c m) (s .timers)) (timerCount c) t l u))
+          ∙ ap (λ v. min v (preset c t)) (sym (timer-table (timed c (activeLeaf c (s .memory)) (activeLeaf c m) (s .timers)) (timerCount c) t l u))
 
       short : (t : ℕ) → t < timerCount c → (getD (w1 .controller .blocks) t blank) .et ≤ preset c (suc t)
       short t h = omega (arith, ap (λ b. b .et) (block-at (w1 .controller .blocks) t ∙ T .done (suc t) (omega arith) (omega arith)), S .blocks (suc t) (omega arith) h)

@@ -4,32 +4,27 @@ use mathlib.Core.Logic.{inl, inr}
 use Prim.Native.Nat.{ℕ, zero, suc, _+_, _-_, _≤_}
 use native.Mathlib.Nat.{zero-add, zero-min}
 use native.Mathlib.Omega.{arith}
-use native.Mathlib.Decide.{decLe}
 use mathlib.Core.Bool.{false, and-false}
 use mathlib.Core.List.{List}
-use lib.ListN.{length, getD, replicate, length-replicate, getD-replicate, List·getD-eq-default}
+use lib.ListN.{length, getD}
 use lib.Dec.{eqb}
 use borrow.Author.Tests.{eqb-true, eq-eqb}
 use Rattle.meaning.specs.Rows.{table}
-use Rattle.meaning.specs.RowsLaws.{which, and-l, and-r, and-both, getD-table, least-at}
+use Rattle.meaning.specs.RowsLaws.{which, and-l, and-r, and-both, getD-table, least-at, getD-equal}
 use Rattle.meaning.specs.Tables.{Tables, stateCount, timerCount, initial}
 use Rattle.meaning.specs.Hierarchy.{subState, leaf, runs}
 use Rattle.meaning.specs.HierarchyLaws.{sub-state-tells}
 use Rattle.meaning.specs.Layout.{groupWidth, groupFirst, code}
 use Rattle.meaning.specs.LayoutLaws.{code-initial}
 use Rattle.meaning.specs.Rules.{Rules}
-use Rattle.meaning.specs.Machine.{State, remembered, timerValue, activeLeaf, follow, start, wordOf, Valid}
+use Rattle.meaning.specs.Machine.{State, remembered, activeLeaf, follow, start, wordOf, Valid}
 use Rattle.meaning.specs.FollowLaws.{Leads, initial-leads, follow-same}
+use Rattle.meaning.specs.MachineLaws.{timer-table}
 use Rattle.meaning.specs.Lent.{coded}
 use Rattle.meaning.specs.Programs.{Program, instructions, flipFlopBytes}
 use Rattle.meaning.specs.Scan.{Controller, blank, blockAt, flipFlopOn, elapsed, ton, withIn, withPt, cleared}
 use Rattle.meaning.specs.Stands.{codeAt, Codes, nextCall, StandsFor, shownSubState, shownLeaf}
 use Rattle.meaning.specs.TestLaws.{Coded, valid-leads, codes-coded, sub-once}
-
--- the value of timer t in a table of values
-pub timer-at : (f : ℕ → ℕ) (n t : ℕ) → 1 ≤ t → t ≤ n → timerValue (table f 1 n) t ≡ f t
-unfolding timerValue
-timer-at f n t l u = getD-table f 1 n (t - 1) 0 (omega arith) ∙ ap f (omega arith)
 
 -- ---- the leaf that is shown
 
@@ -72,7 +67,7 @@ unfolding start remembered nextCall ton withPt withIn elapsed
 start-stands c R k z off = record {
   flips = codes 0;
   copies = codes _;
-  blocks = λ t l u. rw (timer-at (λ j. 0) (timerCount c) t l u, zero-min, off t l u, and-false (runs c t (activeLeaf c (table (initial c) 0 (stateCount c)))));
+  blocks = λ t l u. rw (timer-table (λ j. 0) (timerCount c) t l u, zero-min, off t l u, and-false (runs c t (activeLeaf c (table (initial c) 0 (stateCount c)))));
 }
   where
     codes : (o : ℕ) → Codes c (k .flipFlops) o (table (initial c) 0 (stateCount c))
@@ -82,7 +77,4 @@ start-stands c R k z off = record {
 pub cleared-stands : (c : Tables) → Rules c → (p : Program) → StandsFor c (cleared p) (start c)
 unfolding cleared blockAt
 cleared-stands c R p = start-stands c R (cleared p)
-    (λ b. zeros 0 (flipFlopBytes (instructions p)) b) (λ t l u. ap (λ b. b .last) (zeros blank (length (p .timers)) (t - 1)))
-  where
-    zeros : {A : Type 0} (a : A) (n i : ℕ) → getD (replicate n a) i a ≡ a
-    zeros a n i = elim (decLe (suc i) n) [ yes h ↦ getD-replicate n i a a h | no h ↦ List·getD-eq-default (replicate n a) a {n = i} (omega (arith, length-replicate n a)) ]
+    (λ b. getD-equal 0 (flipFlopBytes (instructions p)) b) (λ t l u. ap (λ b. b .last) (getD-equal blank (length (p .timers)) (t - 1)))

@@ -20,11 +20,12 @@ use Rattle.meaning.specs.Rules.{SubState, Rules}
 use Rattle.meaning.specs.TreeLaws.{Over, depth-root, depth-sub, shallow, super-lt, over-yes, yes-over, above-yes, over-refl, over-trans, over-down, over-le, over-lt, over-same, over-super, way-sub, super-no-leaf}
 use Rattle.meaning.specs.Machine.{wordOf, remembered, descend, follow, guide, reached, entered, moved}
 use Rattle.meaning.specs.FollowLaws.{Leads, stops, goes, super-known, initial-leads, depth-below, over-below, over-descend, guide-leads, enters}
+use Rattle.meaning.specs.MachineLaws.{target-known}
 use Rattle.meaning.specs.Scan.{Within, flipFlopOn, stored, withFlipFlops}
 use Rattle.meaning.specs.Written.{bitsFrom, groupBits, pathBits, bitStore, initialStores, storesFrom, moveStores}
 use Rattle.meaning.specs.Stands.{codeAt}
 use Rattle.meaning.specs.Effects.{storeDone, storesDone}
-use Rattle.meaning.specs.TestLaws.{sub-fits, sub-of-super, target-known}
+use Rattle.meaning.specs.TestLaws.{sub-fits, sub-of-super}
 use Rattle.meaning.specs.declared.Operator.{Operator}
 
 -- flip-flops that agree hold one number

@@ -12,7 +12,7 @@ use lib.IntN.{natAbs}
 use borrow.Author.Tests.{eqb-true, eq-eqb, leb-true}
 use Rattle.meaning.specs.Rows.{some, every, table}
 use Rattle.meaning.specs.RowsLaws.{which, and-l, and-r, same-test}
-use Rattle.meaning.specs.Tables.{Tables, mostDepth, literalPlaces, stateCount, moveCount, timerCount, pairCount, superState, initial, source, target, literal, pairNumber, pairState}
+use Rattle.meaning.specs.Tables.{Tables, mostDepth, literalPlaces, stateCount, moveCount, timerCount, pairCount, superState, initial, source, literal, pairNumber, pairState}
 use Rattle.meaning.specs.Hierarchy.{depth, atOrAbove, onTheWay, leaf, paired}
 use Rattle.meaning.specs.HierarchyLaws.{sub-state-tells, no-leaf-tells}
 use Rattle.meaning.specs.Layout.{groupWidth, groupFirst, code}
@@ -253,11 +253,6 @@ module _ (c : Tables) (x : ℕ) (k : Controller) (s : State) (T : Tells c (k .bl
 pub source-known : (c : Tables) → Rules c → (i : ℕ) → i < moveCount c → source c i < stateCount c
 unfolding source
 source-known c R i h = let r = R .moves i h .fromKnown in rw (r .1) (r .2)
-
--- and so is its target
-pub target-known : (c : Tables) → Rules c → (i : ℕ) → i < moveCount c → target c i < stateCount c
-unfolding target
-target-known c R i h = let r = R .moves i h .toKnown in rw (r .1) (r .2)
 
 -- a move's body passes exactly where the move is enabled
 pub move-passes : (c : Tables) (R : Rules c) (s : State) → Valid c s → (x : ℕ) (k : Controller) → Coded c (k .flipFlops) 0 (remembered (s .memory)) → Tells c (k .blocks) s

@@ -4,11 +4,11 @@ use mathlib.Core.Logic.{_≢_, inl, inr}
 use Prim.Native.Nat.{ℕ, zero, suc, _+_, _*_, _-_, _/_, _≤_, _<_, min}
 use native.Mathlib.Nat.{add-zero, le-refl, min-eq-left, min-eq-right, div-lt-iff-lt-mul}
 use native.Mathlib.Omega.{arith}
-use native.Mathlib.Decide.{ℕ-discrete}
+use native.Mathlib.Decide.{ℕ-discrete, decLe}
 use mathlib.Core.Bool.{Bool, true, false, cond, _&&_}
 use mathlib.Core.List.{List}
-use lib.ListN.{length, getD, set, length-set}
-use lib.Seq.{getD-set-same, getD-set-other, set-set}
+use lib.ListN.{length, getD, length-set}
+use lib.Seq.{getD-set-same, getD-set-other, set-set, set-out}
 use lib.Dec.{leb}
 use borrow.Author.Tests.{leb-true, leb-false, le-leb}
 use Rattle.meaning.specs.Rows.{table}
@@ -34,9 +34,13 @@ changed-other : (bs : List Block) (n t : ℕ) (f : Block → Block) → 1 ≤ n 
 unfolding blockAt changed
 changed-other bs n t f g h e = getD-set-other bs (n - 1) (t - 1) (f (getD bs (n - 1) blank)) blank (λ z. e (omega arith))
 
-changed-twice : (bs : List Block) (n : ℕ) (f g : Block → Block) → n - 1 < length bs → changed (changed bs n f) n g ≡ changed bs n (λ b. g (f b))
+-- two changes of one block
+pub changed-twice : (bs : List Block) (n : ℕ) (f g : Block → Block) → changed (changed bs n f) n g ≡ changed bs n (λ b. g (f b))
 unfolding changed blockAt
-changed-twice bs n f g h = set-set bs (n - 1) (f (getD bs (n - 1) blank)) _ ∙ ap (λ b. set bs (n - 1) (g b)) (getD-set-same bs (n - 1) (f (getD bs (n - 1) blank)) blank h)
+changed-twice bs n f g = elim (decLe (length bs) (n - 1)) [
+  | yes h ↦ rw (set-out bs (n - 1) (f (getD bs (n - 1) blank)) h, set-out bs (n - 1) (g (getD bs (n - 1) blank)) h, set-out bs (n - 1) (g (f (getD bs (n - 1) blank))) h)
+  | no h ↦ rw (getD-set-same bs (n - 1) (f (getD bs (n - 1) blank)) blank (omega arith), set-set)
+]
 
 changed-size : (bs : List Block) (n : ℕ) (f : Block → Block) → length (changed bs n f) ≡ length bs
 unfolding changed
@@ -62,8 +66,8 @@ module _ (c : Tables) (R : Rules c) (s : State) (ok : Valid c s) (x : ℕ) (w : 
       let v = bodyPasses x (w' .controller) (pairsBody c (c .timerPairs) n) in
       let on = pairs-pass c R (remembered (s .memory)) (valid-leads c R s ok) x (w' .controller) (rw e C) (timerCount c) (c .timerPairs) (R .timerPairs) n in
       ap {B = Controller} (λ b. record { flipFlops = w' .controller .flipFlops; blocks = b })
-      (ap (λ b. changed b n (ton (c .step))) (changed-twice bs n (withIn v) (withPt (preset c n)) h)
-      ∙ changed-twice bs n (λ b. withPt (preset c n) (withIn v b)) (ton (c .step)) h
+      (ap (λ b. changed b n (ton (c .step))) (changed-twice bs n (withIn v) (withPt (preset c n)))
+      ∙ changed-twice bs n (λ b. withPt (preset c n) (withIn v b)) (ton (c .step))
       ∙ ap (λ u. changed bs n (λ b. ton (c .step) (withPt (preset c n) (withIn u b)))) on)
 
   called-one : (j : ℕ) (w' : Within) → 1 ≤ j → j ≤ length (w .controller .blocks) → Called c s w j w' → Called c s w (suc j) (timerRungDone (c .step) x j (timerRung c j) w')

@@ -31,10 +31,6 @@ module _ (c : Tables) (R : Rules c) where
   unfolding superState stateCount
   super-beyond s h = List·getD-eq-default (c .states) 0 (omega (arith, R .size .stateRows))
 
-  pub initial-beyond : (s : ℕ) → stateCount c ≤ s → initial c s ≡ 0
-  unfolding initial stateCount
-  initial-beyond s h = List·getD-eq-default (c .states) 0 (omega (arith, R .size .stateRows))
-
   pub super-root : superState c 0 ≡ 0
   super-root = R .hierarchy 0 (R .size .someState) .root refl
 

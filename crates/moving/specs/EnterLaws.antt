@@ -11,7 +11,7 @@ use lib.ListN.{length, set, take, length-set}
 use lib.Seq.{getD-set-same, getD-set-other, getD-take, length-take-le}
 use lib.Dec.{eqb}
 use borrow.Author.Tests.{eq-eqb, ne-eqb}
-use Rattle.meaning.specs.RowsLaws.{which, and-l, and-r, and-both, same-test}
+use Rattle.meaning.specs.RowsLaws.{which, and-l, and-r, and-both, same-test, false-by}
 use Rattle.meaning.specs.Tables.{Tables, mostDepth, stateCount, moveCount, superState, initial, target, mark}
 use Rattle.meaning.specs.Hierarchy.{depth, atOrAbove, above, onTheWay, leaf}
 use Rattle.meaning.specs.Rules.{Rules}
@@ -21,10 +21,6 @@ use Rattle.meaning.specs.Machine.{remembered, descend, follow, guide, reached, 
 use Rattle.meaning.specs.MachineLaws.{target-known}
 use Rattle.moving.specs.Moves.{setAbove, setBelow}
 use Rattle.paths.specs.FlagsLaws.{remembered-take, is-table}
-
--- a test that fails
-no-test : (b : Bool) → (b ≡ true → ⊥) → b ≡ false
-no-test b n = elim (which b) [ inl e ↦ absurd (n e) | inr e ↦ e ]
 
 pub length-above : (c : Tables) (k s : ℕ) (m : List ℕ) → length (setAbove c k s m) ≡ length m
 unfolding setAbove
@@ -47,7 +43,7 @@ module _ (c : Tables) (R : Rules c) where
 
   -- nothing is above the root
   none-above : (a : ℕ) → above c a 0 ≡ false
-  none-above a = no-test (above c a 0) (λ e. let p = above-yes c R a 0 e in
+  none-above a = false-by (above c a 0) (λ e. let p = above-yes c R a 0 e in
       p .1 (depth-zero c R a (let h = over-le c R a 0 (p .0) in omega (arith, depth-root c R))))
 
   -- what is above a state is its super-state or above that
@@ -66,7 +62,7 @@ module _ (c : Tables) (R : Rules c) where
   one-up s a m n f =
       let lt = super-lt c R s n in
       elim (ℕ-discrete a (superState c s)) [
-        | yes e ↦ (let i : above c a (superState c s) ≡ false = no-test _ (λ z. above-yes c R a (superState c s) z .1 e) in
+        | yes e ↦ (let i : above c a (superState c s) ≡ false = false-by _ (λ z. above-yes c R a (superState c s) z .1 e) in
             let j : above c a s ≡ true = rw e (yes-above c R (superState c s) s (over-super c R s n) (λ z. omega (arith, z))) in
             rw (i, j, e, getD-set-same m (superState c s) s 0 (omega arith)) (sym (way-sub c R (superState c s) s s (depth-sub c R s n) (over-refl c R s))))
         | no x ↦ rw (above-super a s n x) (elim (which (above c a (superState c s))) [
@@ -101,7 +97,7 @@ module _ (c : Tables) (R : Rules c) where
         let D = over-descend c R g W k (g s) in
         let d = depth-below c R s (g s) b in
         rw (goes c g k s e) (elim (ℕ-discrete a s) [
-          | yes x ↦ (let i : between k (g s) a ≡ false = no-test _ (λ y. omega (arith, over-le c R (g s) a (over-yes c R (g s) a (and-l _ _ y)), ap (depth c) x)) in
+          | yes x ↦ (let i : between k (g s) a ≡ false = false-by _ (λ y. omega (arith, over-le c R (g s) a (over-yes c R (g s) a (and-l _ _ y)), ap (depth c) x)) in
               let j : (atOrAbove c s a && atOrAbove c a (descend c g k (g s))) ≡ true =
               rw x (and-both _ _ (yes-over c R s s (over-refl c R s)) (yes-over c R s _ (over-trans c R s (g s) _ (over-below c R s (g s) b) D))) in
               rw (i, j, x, getD-set-same m s (g s) 0 h))
@@ -117,7 +113,7 @@ module _ (c : Tables) (R : Rules c) where
     at-leaf k s a m e h = rw (stops c g k s e) (elim (ℕ-discrete a s) [
       | yes x ↦ (let j : (atOrAbove c s a && atOrAbove c a s) ≡ true = rw x (and-both _ _ (yes-over c R s s (over-refl c R s)) (yes-over c R s s (over-refl c R s))) in
           rw (j, x, getD-set-same m s (g s) 0 h))
-      | no x ↦ (let j : (atOrAbove c s a && atOrAbove c a s) ≡ false = no-test _ (λ y. x (over-same c R a s (over-yes c R a s (and-r (atOrAbove c s a) _ y)) (over-yes c R s a (and-l _ _ y)))) in
+      | no x ↦ (let j : (atOrAbove c s a && atOrAbove c a s) ≡ false = false-by _ (λ y. x (over-same c R a s (over-yes c R a s (and-r (atOrAbove c s a) _ y)) (over-yes c R s a (and-l _ _ y)))) in
           rw (j, getD-set-other m s a (g s) 0 x))
     ])
 
@@ -192,7 +188,7 @@ module _ (c : Tables) (R : Rules c) where
             ≡ cond (above c a (target c i)) (onTheWay c a (target c i)) (cond (reached c (initial c) (target c i) a) (initial c a) (remembered m a))
         apart a = elim (which (above c a (target c i))) [
           | inl f ↦ (let p = above-yes c R a (target c i) f in
-              let n : reached c (initial c) (target c i) a ≡ false = unfold reached in (no-test _ (λ y. p .1 (over-same c R a (target c i) (p .0) (over-yes c R (target c i) a (and-l _ _ y))))) in
+              let n : reached c (initial c) (target c i) a ≡ false = unfold reached in (false-by _ (λ y. p .1 (over-same c R a (target c i) (p .0) (over-yes c R (target c i) a (and-l _ _ y))))) in
               rw (f, n))
           | inr f ↦ rw f
         ]

@@ -1,3 +1,2 @@
 pub mod Moves
-pub mod ChoiceLaws
 pub mod EnterLaws

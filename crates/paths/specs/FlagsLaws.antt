@@ -4,14 +4,14 @@ use mathlib.Core.Logic.{_≢_, inl, inr}
 use Prim.Native.Nat.{ℕ, zero, suc, _+_, _-_, _≤_, _<_}
 use native.Mathlib.Omega.{arith}
 use native.Mathlib.Decide.{ℕ-discrete}
-use mathlib.Core.Bool.{Bool, true, false, not, cond, _&&_, _||_, true≢false}
+use mathlib.Core.Bool.{Bool, true, false, cond, _&&_, _||_, or-true, or-false, and-true, and-false}
 use mathlib.Core.List.{List}
-use lib.ListN.{length, getD, set, take, length-set}
+use lib.ListN.{length, getD, set, take}
 use lib.Seq.{getD-set-same, getD-set-other, getD-take, ext-getD}
 use lib.Dec.{eqb}
 use borrow.Author.Tests.{eq-eqb, ne-eqb}
-use Rattle.meaning.specs.Rows.{some, every, table}
-use Rattle.meaning.specs.RowsLaws.{which, or-cases, or-l, or-r, same-test, true-not, false-not, some-yes, some-intro, length-table, getD-table}
+use Rattle.meaning.specs.Rows.{some, table}
+use Rattle.meaning.specs.RowsLaws.{which, length-table, getD-table, some-same}
 use Rattle.meaning.specs.Tables.{Tables, mostDepth, mostStates, stateCount, pairCount, pairNumber, pairState}
 use Rattle.meaning.specs.Hierarchy.{depth, atOrAbove, leaf, paired}
 use Rattle.meaning.specs.Rules.{Rules}
@@ -23,66 +23,17 @@ use Rattle.paths.specs.Flags.{on, Path, rowOn, walk}
 
 -- ---- flags
 
-pub or-no : (b : Bool) → (b || false) ≡ b
-or-no true = refl
-or-no false = refl
-
-pub and-yes : (b : Bool) → (b && true) ≡ b
-and-yes true = refl
-and-yes false = refl
-
-pub and-no : (b : Bool) → (b && false) ≡ false
-and-no true = refl
-and-no false = refl
-
-or-yes : (b : Bool) → (b || true) ≡ true
-or-yes true = refl
-or-yes false = refl
-
 -- one more flag is set
 pub on-set : (fs : List ℕ) (n k : ℕ) → k < length fs → on (set fs n 1) k ≡ (on fs k || eqb n k)
 on-set fs n k h = elim (ℕ-discrete n k) [
-  | yes e ↦ rw (e, getD-set-same fs k 1 0 h, eq-eqb k k refl) (sym (or-yes (on fs k)))
-  | no d ↦ rw (getD-set-other fs n k 1 0 (λ z. d (sym z)), ne-eqb n k d) (sym (or-no (on fs k)))
+  | yes e ↦ rw (e, getD-set-same fs k 1 0 h, eq-eqb k k refl) (sym (or-true (on fs k)))
+  | no d ↦ rw (getD-set-other fs n k 1 0 (λ z. d (sym z)), ne-eqb n k d) (sym (or-false (on fs k)))
 ]
 
 -- one more flag is set, or not
 pub on-set-if : (fs : List ℕ) (n k : ℕ) (b : Bool) → k < length fs → on (cond b (set fs n 1) fs) k ≡ (on fs k || (eqb n k && b))
-on-set-if fs n k true h = rw (and-yes (eqb n k)) (on-set fs n k h)
-on-set-if fs n k false h = rw (and-no (eqb n k)) (sym (or-no (on fs k)))
-
-pub length-set-if : (fs : List ℕ) (n : ℕ) (b : Bool) → length (cond b (set fs n 1) fs) ≡ length fs
-length-set-if fs n true = length-set fs n 1
-length-set-if fs n false = refl
-
--- one row more
-pub some-more : (p : ℕ → Bool) (n : ℕ) → some p 0 (suc n) ≡ (some p 0 n || p n)
-some-more p n = same-test (some p 0 (suc n)) (some p 0 n || p n) there back
-  where
-    there : some p 0 (suc n) ≡ true → (some p 0 n || p n) ≡ true
-    there e = let r = some-yes p 0 (suc n) e in elim (which (p n)) [
-      | inl f ↦ or-r (some p 0 n) (p n) f
-      | inr f ↦ or-l (some p 0 n) (p n) (some-intro p 0 n (r .0) (omega arith)
-          (let z : r .0 ≡ n → ⊥ = λ e. true≢false (sym (r .3) ∙ ap p e ∙ f) in omega (arith, r .2, z)) (r .3))
-    ]
-
-    back : (some p 0 n || p n) ≡ true → some p 0 (suc n) ≡ true
-    back e = elim (or-cases (some p 0 n) (p n) e) [
-      | inl f ↦ (let r = some-yes p 0 n f in some-intro p 0 (suc n) (r .0) (omega arith) (omega (arith, r .2)) (r .3))
-      | inr f ↦ some-intro p 0 (suc n) n (omega arith) (omega arith) f
-    ]
-
--- a row that does not pass
-pub every-no : (p : ℕ → Bool) (n k : ℕ) → k < n → p k ≡ false → every p 0 n ≡ false
-every-no p n k h e = true-not _ (some-intro (λ j. not (p j)) 0 n k (omega arith) (omega arith) (false-not (p k) e))
-
-pub some-same : (p q : ℕ → Bool) (i n : ℕ) → ((k : ℕ) → i ≤ k → k < i + n → p k ≡ q k) → some p i n ≡ some q i n
-unfolding some
-some-same p q i zero h = refl
-some-same p q i (suc n) h = let e = h i (omega arith) (omega arith) in elim (which (q i)) [
-  | inl f ↦ rw (some, e, f)
-  | inr f ↦ (let d : p i ≡ false = e ∙ f in rw (some, d, f) (some-same p q (suc i) n (λ k a b. h k (omega arith) (omega arith))))
-]
+on-set-if fs n k true h = rw (and-true (eqb n k)) (on-set fs n k h)
+on-set-if fs n k false h = rw (and-false (eqb n k)) (sym (or-false (on fs k)))
 
 -- with the flags of the path the rows of a pair table say who is paired on it
 pub rows-paired : (c : Tables) (ps : List ℕ) (l : ℕ) (fs : List ℕ) → Path c l fs → ((i : ℕ) → i < pairCount ps → pairState ps i < mostStates)

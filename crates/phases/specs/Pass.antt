@@ -13,8 +13,7 @@ use Rattle.format.specs.Words.{words, AcceptedWords}
 use Rattle.format.specs.Places.{WordPlace}
 use Rattle.format.specs.Decode.{decoded}
 use Rattle.format.specs.Phases.{begin, beginWords, alive, mayEnd, stepWord, afterWords}
-use Rattle.format.specs.WordLaws.{accepted-words, words-step, refused-word, unfinished-words, words-same, place-same}
-use Rattle.phases.specs.Blocks.{program-timers}
+use Rattle.format.specs.WordLaws.{accepted-words, words-step, refused-word, unfinished-words, words-same, place-same, program-timers}
 use Rattle.phases.specs.declared.Passed.{Passed}
 use Rattle.phases.specs.declared.Passed.the-variants.{Accepted, Refused}
 

@@ -1,74 +1,47 @@
 -- What the loop over the lines keeps, and that a text has one answer only.
 use mathlib.Core.Path.{_≡_, refl, sym, ap, ap₂, _∙_}
-use mathlib.Core.Logic.{inl, inr}
-use Prim.Native.Nat.{ℕ, suc, _+_, _-_, _%_, _≤_, _<_, min}
-use native.Mathlib.Nat.{add-zero, zero-add, add-suc, suc-add}
+use Prim.Native.Nat.{ℕ, _+_, _-_, _%_, _≤_, _<_, min}
+use native.Mathlib.Nat.{zero-add}
 use native.Mathlib.Numerals.{add-one}
 use native.Mathlib.Omega.{arith}
 use mathlib.Core.Bool.{true, false, false≢true}
-use mathlib.Core.List.{List, [], _∷_, _++_, map, flatMap, append-assoc, append-nil}
-use lib.ListN.{length, getD, take, drop, set, length-append, take-append-drop, length-map}
-use lib.Seq.{slice, sets, take-suc, take-take, take-add, drop-at, length-take-le, length-sets, sets-eq}
-use Rattle.meaning.specs.RowsLaws.{and-both}
-use Rattle.meaning.specs.Programs.{instructions, all, carried}
-use Rattle.meaning.specs.Tables.{mostPreset}
+use mathlib.Core.List.{List, [], _∷_, _++_, map, flatMap, append-nil, map-append}
+use lib.ListN.{length, take, drop, set, length-append, length-map}
+use lib.Seq.{slice, sets, take-add, drop-at, length-take-le, length-sets, sets-eq}
+use Rattle.meaning.specs.RowsLaws.{sets-append}
+use Rattle.meaning.specs.Programs.{instructions, all}
 use Rattle.meaning.specs.Calls.{overlaid}
 use Rattle.meaning.specs.declared.Operator.{Operator}
-use Rattle.meaning.specs.declared.Operator.the-variants.{Ld, Ldn, And, Andn, Or, Close, St, S, R, Cal, LdTime}
 use Rattle.meaning.specs.declared.Refusal.{Refusal}
 use Rattle.meaning.specs.declared.Refusal.the-variants.{Room, Text}
 use Rattle.format.specs.declared.Line.{Line}
 use Rattle.format.specs.declared.Line.the-variants.{Header, Var, Block, EndVar, Says, EndProgram, Unknown}
 use Rattle.format.specs.declared.Page.{Page}
 use Rattle.format.specs.Words.{word, words}
-use Rattle.format.specs.Text.{line}
 use Rattle.format.specs.Places.{TextPlace, WholeLines, room}
 use Rattle.format.specs.Text.{AcceptedText}
 use Rattle.format.specs.Decode.{instruction}
-use Rattle.format.specs.DecodeLaws.{operand-small, carried-fits, within}
+use Rattle.format.specs.DecodeLaws.{word-small}
 use Rattle.format.specs.Lines.{lineFits, said, firstPage, turn, afterLines}
-use Rattle.format.specs.LineLaws.{all-append, oneLine, said-fits}
+use Rattle.format.specs.LineLaws.{oneLine}
 use Rattle.format.specs.Pages.{standing, over}
 use Rattle.format.specs.WordLaws.{place-same}
-use Rattle.format.specs.TextLaws.{lines-append, afterLines-append, spoken, text-same}
-use Rattle.format.specs.TextReader.{Taken, taken-refused, taken-unfinished, taken-over, slice-one-line, drop-one-line}
+use Rattle.format.specs.TextLaws.{spoken, text-same, said-known}
+use Rattle.format.specs.TextReader.{Taken, taken-refused, taken-unfinished, taken-over, slice-one-line, drop-one-line, taken-line}
 use Rattle.reader.specs.declared.Answer.{Answer}
 use Rattle.reader.specs.declared.Answer.the-variants as Out
 use Rattle.reader.specs.Reads.{TextRead, reads, cramped, refuses, LineEnd, counted, placed, Passed, Stopped, Pass}
 
 -- ---- words
 
--- an instruction's word has 32 bits
-word-small : (i : Operator) → instruction i ≡ true → word i < 4294967296
-unfolding word carried instruction
-word-small (Ld o) f = omega (arith, operand-small o (carried-fits (Ld o) f))
-word-small (Ldn o) f = omega (arith, operand-small o (carried-fits (Ldn o) f))
-word-small (And o) f = omega (arith, operand-small o (carried-fits (And o) f))
-word-small (Andn o) f = omega (arith, operand-small o (carried-fits (Andn o) f))
-word-small Or f = omega arith
-word-small Close f = omega arith
-word-small (St o) f = omega (arith, operand-small o (carried-fits (St o) f))
-word-small (S o) f = omega (arith, operand-small o (carried-fits (S o) f))
-word-small (R o) f = omega (arith, operand-small o (carried-fits (R o) f))
-word-small (Cal o) f = omega (arith, operand-small o (carried-fits (Cal o) f))
-word-small (LdTime n) f = omega (arith, within 1 mostPreset n f .1)
-
-sets-more : (v l : List ℕ) (i b : ℕ) → sets l i (v ++ (b ∷ [])) ≡ set (sets l i v) (i + length v) b
-sets-more [] l i b = rw add-zero
-sets-more (x ∷ v) l i b = rw (add-suc i (length v), ← suc-add i (length v)) (sets-more v (set l i x) (suc i) b)
-
 -- the words of the instructions, over the slice
 abbrev written : List ℕ → List Operator → List ℕ
 written entry is = sets entry 0 (map word is)
 
-map-more : (is : List Operator) (i : Operator) → map word (is ++ (i ∷ [])) ≡ map word is ++ (word i ∷ [])
-map-more [] i = refl
-map-more (j ∷ is) i = ap (λ l. word j ∷ l) (map-more is i)
-
 written-more : (entry : List ℕ) (is : List Operator) (i : Operator) → instruction i ≡ true → set (written entry is) (length is) (word i % 4294967296) ≡ written entry (is ++ (i ∷ []))
 written-more entry is i f =
     let e : word i % 4294967296 ≡ word i = (let h = word-small i f in omega arith) in
-    rw (e, map-more, sets-more, zero-add, length-map)
+    rw (e, map-append, sets-append, zero-add, length-map)
 
 -- one line more
 record Says1 (entry : List ℕ) (is : List Operator) (t : Line) : Type 0 where
@@ -108,10 +81,6 @@ spoken-more (Says i ∷ ts) t = ap (λ l. i ∷ l) (spoken-more ts t)
 spoken-more (EndProgram ∷ ts) t = spoken-more ts t
 spoken-more (Unknown ∷ ts) t = spoken-more ts t
 
-said-more : (ls : List (List ℕ)) (x : List ℕ) → map said (ls ++ (x ∷ [])) ≡ map said ls ++ (said x ∷ [])
-said-more [] x = refl
-said-more (l ∷ ls) x = ap (λ ts. said l ∷ ts) (said-more ls x)
-
 -- ---- the loop
 
 -- the first b bytes of l are lines, they lead to page s, and the words of their n instructions stand in o
@@ -125,10 +94,6 @@ pub passing-none : (l entry : List ℕ) (s : Page) → s ≡ firstPage → Passi
 unfolding all flatMap afterLines firstPage standing spoken
 passing-none l entry s e = rw e (record { taken = record { lines = []; whole = refl; within = omega arith; lists = refl; page = refl; stands = refl }; few = omega arith; count = refl; list = refl })
 
-standing-fits : (s : Page) (t : Line) (x : List ℕ) → t ≡ said x → standing (turn s t) ≡ true → lineFits t ≡ true
-unfolding turn standing
-standing-fits s t x e a = elim (said-fits x) [ inl u ↦ absurd (false≢true (rw (e ∙ u) at a)) | inr f ↦ rw e f ]
-
 -- a part as the code makes it
 part-slice : (l : List ℕ) (b e : ℕ) → b ≤ e → e ≤ length l → take (e - b) (drop b l) ≡ slice b e l
 part-slice l b e h k =
@@ -136,13 +101,6 @@ part-slice l b e h k =
     sym (ap (λ j. drop b (take j l)) z ∙ ap (drop b) (take-add b (e - b) l) ∙ drop-at (take b l) (take (e - b) (drop b l)) b (length-take-le b l (omega arith)))
 
 module _ {l entry : List ℕ} {b : ℕ} {s : Page} {n : ℕ} {o : List ℕ} (q : Passing l entry b s n o) where
-  take-line : (e : ℕ) → b ≤ e → e < length l → getD l e 0 ≡ 10 → take (suc e) l ≡ take b l ++ line (slice b e l)
-  unfolding line
-  take-line e h k z =
-      take-suc l e 0 k ∙ ap (λ x. take e l ++ (x ∷ [])) z
-      ∙ ap (λ x. x ++ (10 ∷ [])) (sym (take-append-drop b (take e l)) ∙ ap (λ x. x ++ slice b e l) (take-take b e l h))
-      ∙ append-assoc (take b l) (slice b e l) (10 ∷ [])
-
   pub passing-length : length o ≡ length entry
   passing-length = ap length (q .list) ∙ length-sets entry 0 (map word (spoken (map said (q .taken .lines))))
 
@@ -153,30 +111,21 @@ module _ {l entry : List ℕ} {b : ℕ} {s : Page} {n : ℕ} {o : List ℕ} (q :
     one-line : oneLine (slice b e l) ≡ true
     one-line = slice-one-line l b e (h .none)
 
-    goes-on : standing (turn s t) ≡ true → Passing l entry (e + 1) (turn s t) (counted n t) (placed o n t)
-    unfolding all flatMap afterLines
+    goes-on : standing (turn s (said (slice b e l))) ≡ true → Passing l entry (e + 1) (turn s (said (slice b e l))) (counted n (said (slice b e l))) (placed o n (said (slice b e l)))
     goes-on a =
         let is = spoken (map said (q .taken .lines)) in
-        let m = says-one entry is t (standing-fits s t (slice b e l) said-t a) in
-        let g : is ++ spoken (t ∷ []) ≡ spoken (map said (q .taken .lines ++ (slice b e l ∷ []))) = rw (said-more, spoken-more, said-t) in
-        rw add-one (
-        record {
-          taken = record {
-            lines = q .taken .lines ++ (slice b e l ∷ []);
-            whole = all-append oneLine (q .taken .lines) (slice b e l ∷ []) (q .taken .whole) (and-both _ _ one-line refl);
-            within = k;
-            lists = lines-append (q .taken .lines) (slice b e l ∷ []) ∙ ap₂ _++_ (q .taken .lists) (append-nil (line (slice b e l))) ∙ sym (take-line e (h .after) k (h .lf k));
-            page = afterLines-append (q .taken .lines) (slice b e l ∷ []) firstPage ∙ ap₂ turn (q .taken .page) (sym said-t);
-            stands = a;
-          };
-          few = omega (arith, counted-few n t, q .few, h .after);
-          count = ap (λ j. counted j t) (q .count) ∙ m .count ∙ ap length g;
-          list = ap₂ (λ x j. placed x j t) (q .list) (q .count) ∙ m .list ∙ ap (written entry) g;
-        }
-        )
+        let u = taken-line (q .taken) e (h .after) k (h .lf k) one-line a in
+        let m = says-one entry is (said (slice b e l)) (said-known s (slice b e l) a) in
+        let g : is ++ spoken (said (slice b e l) ∷ []) ≡ spoken (map said (u .0 .lines)) = rw (u .1, map-append, spoken-more) in
+        rw add-one (record {
+          taken = u .0;
+          few = omega (arith, counted-few n (said (slice b e l)), q .few, h .after);
+          count = ap (λ j. counted j (said (slice b e l))) (q .count) ∙ m .count ∙ ap length g;
+          list = ap₂ (λ x j. placed x j (said (slice b e l))) (q .list) (q .count) ∙ m .list ∙ ap (written entry) g;
+        })
 
     pub passing-line : {r : Page} {m : ℕ} {w : List ℕ} → r ≡ turn s t → standing r ≡ true → m ≡ counted n t → w ≡ placed o n t → Passing l entry (e + 1) r m w
-    passing-line f a c d = rw (f, c, d) (goes-on (rw f at a))
+    passing-line f a c d = rw (f, c, d, said-t) (goes-on (rw (f, said-t) at a))
 
     stops-at : standing (turn s t) ≡ false → TextPlace l b
     stops-at a = taken-refused (q .taken) e (h .after) k (h .lf k) one-line (rw said-t at a)

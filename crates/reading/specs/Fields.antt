@@ -14,13 +14,14 @@ use Rattle.meaning.specs.Literals.{between}
 use Rattle.meaning.specs.RowsLaws.{which, and-l, and-r, and-both}
 use Rattle.format.specs.Text.{decimal}
 use Rattle.format.specs.Records.{same, spelt, decimalWithin, negative, fieldValue, content}
+use Rattle.format.specs.Decimals.{huge, digit}
 use Rattle.field.specs.declared.Phase.{Phase}
 use Rattle.field.specs.declared.Phase.the-variants.{Fresh, Empty, Quote, Minus, Number, Closed, Return, Bad}
 use Rattle.field.specs.declared.Decimal.{Decimal}
 use Rattle.field.specs.declared.Decimal.the-variants.{Is, IsNot}
 use Rattle.field.specs.Field.{top, grown, begun, numberAfter, phaseAfter, encoded, decimalOf}
 use Rattle.field.specs.FieldLaws.{grown-low, grown-high, grown-past, grown-digit}
-use Rattle.reading.specs.Decimals.{huge, digit, goesOn, goes-end, goes-digit, goes-other, goes-past, goes-zero, goes-low, within-none, within-other, within-digit, within-past}
+use Rattle.reading.specs.Decimals.{goesOn, goes-end, goes-digit, goes-other, goes-past, goes-zero, goes-low, within-none, within-other, within-digit, within-past}
 
 -- a stored number: "a negative number is stored as its 64-bit two's complement"
 unfoldable pub stored : ℤ → ℕ

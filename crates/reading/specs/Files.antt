@@ -1,9 +1,9 @@
 -- The seven files: `feed` over a whole file and `finish` answer as the checks of format's Printed.antt do, and store the file's numbers.
 use mathlib.Core.Path.{_≡_, refl, sym, ap, _∙_}
-use mathlib.Core.Logic.{_⊎_, inl, inr}
-use Prim.Native.Nat.{ℕ, zero, suc, _+_, _≤_, _<_, max}
+use mathlib.Core.Logic.{_⊎_}
+use Prim.Native.Nat.{ℕ, zero, suc, _≤_, _<_, max}
 use native.Mathlib.Omega.{arith}
-use mathlib.Core.Bool.{Bool, true, false, _&&_, not, cond}
+use mathlib.Core.Bool.{true, _&&_, not, cond}
 use mathlib.Core.List.{List, [], _∷_, _++_, map}
 use lib.ListN.{length, getD}
 use lib.Seq.{sets}
@@ -11,7 +11,7 @@ use lib.Dec.{leb, ltb, eqb, eqb·suc-zero}
 use borrow.Author.Tests.{lt-ltb, le-ltb}
 use Rattle.meaning.specs.Programs.{all}
 use Rattle.meaning.specs.Rows.{least}
-use Rattle.meaning.specs.RowsLaws.{which}
+use Rattle.meaning.specs.RowsLaws.{least-same}
 use Rattle.meaning.specs.Tables.{stateRow, moveRow, pairRow}
 use Rattle.meaning.specs.Check.{Check, firstFailing}
 use Rattle.format.specs.Records.{Column, records, recordPasses, numbers}
@@ -39,14 +39,6 @@ pub record Calls (r : Reader) (bs out : List ℕ) (a : Answer) (left : List ℕ)
   pub fed : Fed r bs out state between
   pub finished : Finished state between a left
   pub room : length out ≤ top
-
-least-same : (p q : ℕ → Bool) (i n : ℕ) → ((k : ℕ) → i ≤ k → k < i + n → p k ≡ q k) → least p i n ≡ least q i n
-unfolding least
-least-same p q i zero h = refl
-least-same p q i (suc n) h = elim (which (q i)) [
-  | inl e ↦ (let f : p i ≡ true = h i (omega arith) (omega arith) ∙ e in rw (least, f, e))
-  | inr e ↦ (let f : p i ≡ false = h i (omega arith) (omega arith) ∙ e in rw (least, f, e) (least-same p q (suc i) n (λ k a b. h k (omega arith) (omega arith))))
-]
 
 module _ (t : Column) (more few limit : ℕ) (small : mostOf t ≤ top) (little : belowOf t ≤ top) (fits : limit ≤ top) (bs : List ℕ) where
   numbers-typed : ((j : ℕ) → j < length (records bs) → recordPasses t (suc more) (getD (records bs) j []) ≡ true) → all (within (mostOf t) (belowOf t)) (numbers bs) ≡ true

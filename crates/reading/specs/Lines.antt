@@ -4,7 +4,7 @@ use mathlib.Core.Logic.{_⊎_, inl, inr}
 use Prim.Native.Nat.{ℕ, zero, suc, _+_, _*_, _-_, _≤_, _<_}
 use native.Mathlib.Omega.{arith}
 use native.Mathlib.Decide.{ℕ-discrete, decLe}
-use mathlib.Core.Bool.{Bool, true, false, _&&_, not, cond, true≢false, false≢true}
+use mathlib.Core.Bool.{Bool, true, false, _&&_, not, cond, true≢false, false≢true, and-false}
 use mathlib.Core.List.{List, [], _∷_, _++_, flatMap, append-assoc, append-nil}
 use lib.ListN.{length}
 use lib.Dec.{leb, ltb, eqb, eqb·suc-suc, eqb·suc-zero, eqb·zero-suc}
@@ -41,11 +41,6 @@ unfolding trimmed withoutCr
 trimmed-cons false b q h = refl
 trimmed-cons true b [] h = rw (ne-eqb b 13 h)
 trimmed-cons true b (d ∷ q) h = refl
-
-trimmed-two : (lf : Bool) (b d : ℕ) (q : List ℕ) → trimmed lf (b ∷ d ∷ q) ≡ b ∷ trimmed lf (d ∷ q)
-unfolding trimmed withoutCr
-trimmed-two false b d q = refl
-trimmed-two true b d q = refl
 
 -- ---- the fields of a record
 
@@ -114,10 +109,6 @@ after-live most below Bad b = (refl, refl)
 tell : (d : Decimal) → ((v : ℕ) × (d ≡ Is v)) ⊎ (d ≡ IsNot)
 tell (Is v) = inl (v, refl)
 tell IsNot = inr refl
-
-and-false : (a : Bool) → (a && false) ≡ false
-and-false true = refl
-and-false false = refl
 
 -- CR is in no decimal
 return-phase : (most below : ℕ) (p : Phase) → phaseAfter most below p 13 ≡ Bad

@@ -4,7 +4,7 @@ use mathlib.Core.Logic.{_⊎_, inl, inr}
 use Prim.Native.Nat.{ℕ, zero, suc, _+_, _-_, _≤_, _<_}
 use native.Mathlib.Omega.{arith}
 use mathlib.Core.Bool.{Bool, true, false, _&&_, cond, true≢false, false≢true}
-use mathlib.Core.List.{List, [], _∷_, _++_, map, flatMap}
+use mathlib.Core.List.{List, [], _∷_, map, flatMap}
 use lib.ListN.{length, getD, drop}
 use lib.Dec.{leb, ltb, eqb}
 use lib.IntN.{ℤ, pos, negsuc, negℤ, natAbs}
@@ -15,6 +15,8 @@ use Rattle.meaning.specs.RowsLaws.{which, and-l, and-r, and-both}
 use Rattle.format.specs.Text.{decimal}
 use Rattle.format.specs.Records.{Column, pieces, records, content, fields, same, spelt, decimalWithin, negative, decimalFits, fieldValue, recordPasses, numbers}
 use Rattle.format.specs.Printed.{naturals}
+use Rattle.format.specs.DecodeLaws as decode
+use Rattle.format.specs.LineLaws.{all-append}
 use Rattle.field.specs.Field.{top, signedOf}
 use Rattle.reading.specs.Fields.{stored, fitsIn}
 use Rattle.reading.specs.Reading.{mostOf, belowOf, column-fits}
@@ -26,8 +28,7 @@ within most below (negsuc n) = ltb n below
 
 between-of : (low high : ℕ) (f : List ℕ) → decimalWithin low high f ≡ true → (low ≤ spelt 0 f) × (spelt 0 f ≤ high)
 unfolding decimalWithin
-between-of low high f e = (let z = and-r (same (decimal (spelt 0 f)) f) (between low high (spelt 0 f)) e in
-    (leb-true low (spelt 0 f) (and-l (leb low (spelt 0 f)) (leb (spelt 0 f) high) z), leb-true (spelt 0 f) high (and-r (leb low (spelt 0 f)) (leb (spelt 0 f) high) z)))
+between-of low high f e = decode.within low high (spelt 0 f) (and-r (same (decimal (spelt 0 f)) f) (between low high (spelt 0 f)) e)
 
 minus-within : (most below n : ℕ) → 1 ≤ n → n ≤ below → within most below (negℤ (pos n)) ≡ true
 unfolding within
@@ -40,11 +41,6 @@ field-within most below f e = elim (which (negative f)) [
   | inl g ↦ (let b = between-of 1 below (drop 1 f) (rw g at e) in rw g (minus-within most below (spelt 0 (drop 1 f)) (b .0) (b .1)))
   | inr g ↦ (let b = between-of 0 most f (rw g at e) in rw g (le-leb (spelt 0 f) most (b .1)))
 ]
-
-all-join : (p : ℤ → Bool) (a b : List ℤ) → all p a ≡ true → all p b ≡ true → all p (a ++ b) ≡ true
-unfolding all
-all-join p [] b e f = f
-all-join p (z ∷ a) b e f = and-both (p z) (all p (a ++ b)) (and-l (p z) (all p a) e) (all-join p a b (and-r (p z) (all p a) e) f)
 
 module _ (t : Column) (small : mostOf t ≤ top) (little : belowOf t ≤ top) where
   abbrev typed : ℤ → Bool
@@ -60,7 +56,7 @@ module _ (t : Column) (small : mostOf t ≤ top) (little : belowOf t ≤ top) wh
   pub records-within : (more : ℕ) (xs : List (List ℕ)) → ((j : ℕ) → j < length xs → recordPasses t (suc more) (getD xs j []) ≡ true) → all typed (flatMap (λ x. map fieldValue (fields x)) xs) ≡ true
   unfolding flatMap all recordPasses
   records-within more [] h = refl
-  records-within more (x ∷ xs) h = all-join typed (map fieldValue (fields x)) (flatMap (λ y. map fieldValue (fields y)) xs)
+  records-within more (x ∷ xs) h = all-append typed (map fieldValue (fields x)) (flatMap (λ y. map fieldValue (fields y)) xs)
       (fields-within (fields x) (and-r (eqb (length (fields x)) (suc more)) (all (decimalFits t) (fields x)) (h 0 (omega arith))))
       (records-within more xs (λ j z. h (suc j) (omega arith)))
 

@@ -3,7 +3,7 @@ use mathlib.Core.Path.{_≡_, refl, sym, ap, _∙_}
 use mathlib.Core.Logic.{_⊎_, inl, inr}
 use Prim.Native.Nat.{ℕ, zero, suc, _+_, _-_, _^_, _≤_, _<_, max}
 use native.Mathlib.Omega.{arith}
-use mathlib.Core.Bool.{Bool, true, false, _&&_, not, cond, true≢false, false≢true}
+use mathlib.Core.Bool.{Bool, true, false, _&&_, not, cond, true≢false, false≢true, and-false}
 use mathlib.Core.List.{List, [], _∷_, _++_, map, flatMap, map-append}
 use lib.ListN.{length, getD, drop, length-map, List·getD-eq-default}
 use lib.Dec.{leb, ltb, eqb, eqb·suc-suc}
@@ -12,12 +12,13 @@ use borrow.Author.Tests.{lt-ltb, le-ltb, le-leb, lt-leb, leb-true, eq-eqb, ne-eq
 use Rattle.meaning.specs.Programs.{all}
 use Rattle.meaning.specs.Literals.{between}
 use Rattle.meaning.specs.Rows.{least}
-use Rattle.meaning.specs.RowsLaws.{which, and-l, and-r, and-both, least-at, least-none, true-not, false-not}
+use Rattle.meaning.specs.RowsLaws.{which, and-l, and-r, and-both, least-at, least-none, true-not, false-not, false-by}
 use Rattle.meaning.specs.Check.{Check, firstFailing}
 use Rattle.meaning.specs.declared.Refusal.the-variants as R
 use Rattle.format.specs.Records.{Column, front, pieces, ended, records, content, fields, same, spelt, decimalWithin, negative, decimalFits, fieldValue, recordPasses, numbers}
 use Rattle.format.specs.Text.{decimal}
 use Rattle.format.specs.Printed.{unsigned, signed16, mostScans, recordAt, fileCheck, frameCheck, scansFileCheck}
+use Rattle.format.specs.Decimals.{huge}
 use Rattle.field.specs.declared.Phase.{Phase}
 use Rattle.field.specs.declared.Phase.the-variants.{Fresh, Empty}
 use Rattle.field.specs.declared.Decimal.{Decimal}
@@ -27,7 +28,7 @@ use Rattle.records.specs.declared.Answer.the-variants.{Rows, Refused}
 use Rattle.records.specs.declared.Reader.{Reader}
 use Rattle.field.specs.Field.{top, decimalOf}
 use Rattle.records.specs.Automaton.{fresh, shown, emits, feedAll, emitted, atEnd, answerOf}
-use Rattle.reading.specs.Decimals.{huge, within-other, within-none}
+use Rattle.reading.specs.Decimals.{within-other, within-none}
 use Rattle.reading.specs.Fields.{stored, fitsIn, told, phaseAll, field-after, fresh-after}
 use Rattle.reading.specs.Lines.{pieces-cons, isNumber, restPasses, restNumbers}
 use Rattle.reading.specs.Whole.{joined, joined-pieces, noLf, plain-pieces, start, upshot, recordNumbers, Told, told-file}
@@ -41,17 +42,9 @@ mostOf t = cond (t .signed) (2 ^ (t .bits - 1) - 1) (2 ^ t .bits - 1)
 abbrev pub belowOf : Column → ℕ
 belowOf t = cond (t .signed) (2 ^ (t .bits - 1)) 0
 
-not-so : (b : Bool) → (b ≡ true → ⊥) → b ≡ false
-not-so true h = absurd (h refl)
-not-so false h = refl
-
-and-false : (a : Bool) → (a && false) ≡ false
-and-false true = refl
-and-false false = refl
-
 none-below : (f : List ℕ) → decimalWithin 1 0 f ≡ false
 unfolding decimalWithin
-none-below f = not-so _ (λ t. let z = and-r (same (decimal (spelt 0 f)) f) (between 1 0 (spelt 0 f)) t in
+none-below f = false-by _ (λ t. let z = and-r (same (decimal (spelt 0 f)) f) (between 1 0 (spelt 0 f)) t in
     let x = leb-true 1 (spelt 0 f) (and-l (leb 1 (spelt 0 f)) (leb (spelt 0 f) 0) z) in let y = leb-true (spelt 0 f) 0 (and-r (leb 1 (spelt 0 f)) (leb (spelt 0 f) 0) z) in absurd (omega arith))
 
 minus-none : (most : ℕ) → most < huge → (f : List ℕ) → negative f ≡ true → decimalWithin 0 most f ≡ false

@@ -10,7 +10,7 @@ use lib.ListN.{length, set, getD, drop}
 use lib.Dec.{leb, ltb, eqb}
 use lib.Seq.{sets, set-out, drop-cons, length-sets}
 use borrow.Author.Tests.{lt-ltb, le-ltb, le-leb, lt-leb, ltb-false}
-use Rattle.meaning.specs.RowsLaws.{which, and-r}
+use Rattle.meaning.specs.RowsLaws.{which, and-r, sets-out}
 use Rattle.field.specs.declared.Phase.{Phase}
 use Rattle.field.specs.declared.Decimal.{Decimal}
 use Rattle.field.specs.declared.Decimal.the-variants.{Is, IsNot}
@@ -21,14 +21,10 @@ use Rattle.records.specs.Automaton.{up, moved, bad, ends, fits, passed, 
 
 -- ---- the stores of one byte and of those after it
 
-sets-past : (l : List ℕ) (i : ℕ) (w : List ℕ) → length l ≤ i → sets l i w ≡ l
-sets-past l i [] h = refl
-sets-past l i (x ∷ w) h = rw (set-out l i x h) (sets-past l (suc i) w (omega arith))
-
 pub sets-up : (l : List ℕ) (i v : ℕ) (w : List ℕ) → length l ≤ top → sets (set l i v) (up i) w ≡ sets l i (v ∷ w)
 sets-up l i v w h = elim (which (ltb i top)) [
   | inl e ↦ rw (e, add-one i)
-  | inr e ↦ (let h₂ : length l ≤ i = omega (arith, ltb-false i top e) in rw (e, set-out l i v h₂) (sets-past l i w h₂ ∙ sym (sets-past l (suc i) w (omega arith))))
+  | inr e ↦ (let h₂ : length l ≤ i = omega (arith, ltb-false i top e) in rw (e, set-out l i v h₂) (sets-out l i w h₂ ∙ sym (sets-out l (suc i) w (omega arith))))
 ]
 
 passed-at : (r : Reader) (b at : ℕ) → (passed r b at) .at ≡ at

@@ -1,14 +1,12 @@
 -- What a run of a chart over lent state answers and leaves, for any tables.
-use mathlib.Core.Path.{_≡_, refl, sym, ap, _∙_}
+use mathlib.Core.Path.{_≡_, sym, ap, _∙_}
 use mathlib.Core.Bool.{true, false}
-use mathlib.Core.List.{List, [], _∷_, _++_, map}
+use mathlib.Core.List.{List, map}
 use Prim.Native.Nat.{ℕ}
 use lib.ListN.{length}
-use lib.Dec.{eqb}
-use Rattle.meaning.specs.RowsLaws.{which}
-use mathlib.Core.Logic.{inl, inr}
 use Rattle.meaning.specs.Tables.{Tables}
-use Rattle.meaning.specs.Check.{Check, firstFailing, verdictOf, checks, verdict}
+use Rattle.meaning.specs.Check.{verdictOf, checks, verdict}
+use Rattle.chart.specs.Verdicts.{isRefused, stop, go}
 use Rattle.meaning.specs.Calls.{chartRunChecks}
 use Rattle.meaning.specs.Machine.{Seen, trace, after}
 use Rattle.meaning.specs.Lent.{stateOf, lentOf}
@@ -36,32 +34,14 @@ pub one-run : (c : Tables) (xs l ls os : List ℕ) (r s : Ran) (l′ ls′ os′
 one-run c xs l ls os r s l′ ls′ os′ l″ ls″ os″ p q =
     (p .answers ∙ sym (q .answers), p .state ∙ sym (q .state), p .leaves ∙ sym (q .leaves), p .outputs ∙ sym (q .outputs))
 
--- checks that all pass give way to those after them
-pub then-later : (ks js : List Check) → verdictOf ks ≡ Accepted → verdictOf (ks ++ js) ≡ verdictOf js
-unfolding verdictOf
-then-later [] js e = refl
-then-later (k ∷ ks) js e = elim (which (eqb (firstFailing k) (k .rows))) [
-  | inl f ↦ rw (verdictOf, f) (then-later ks js (rw (verdictOf, f) at e))
-  | inr f ↦ (let z : Refused (k .refusal (firstFailing k)) ≡ Accepted = rw (verdictOf, f) at e in cc)
-]
-
--- a refusal stands
-pub then-none : (ks js : List Check) (r : Refusal) → verdictOf ks ≡ Refused r → verdictOf (ks ++ js) ≡ Refused r
-unfolding verdictOf
-then-none [] js r e = cc
-then-none (k ∷ ks) js r e = elim (which (eqb (firstFailing k) (k .rows))) [
-  | inl f ↦ rw (verdictOf, f) (then-none ks js r (rw (verdictOf, f) at e))
-  | inr f ↦ rw (verdictOf, f) (rw (verdictOf, f) at e)
-]
-
 -- refused tables: nothing is run
 pub refused-tables : (c : Tables) (xs l ls os : List ℕ) (r : Refusal) → verdict c ≡ Refused r → ChartRan c xs l ls os (A.Refused r) l ls os
 unfolding verdict chartRunChecks answer left
-refused-tables c xs l ls os r e = let v : runVerdict c xs l ls os ≡ Refused r = then-none (checks c) _ r e in record { answers = rw v; state = rw v; leaves = rw v; outputs = rw v }
+refused-tables c xs l ls os r e = let v : runVerdict c xs l ls os ≡ Refused r = stop (checks c) _ (ap isRefused e) ∙ e in record { answers = rw v; state = rw v; leaves = rw v; outputs = rw v }
 
 -- accepted tables: the later checks decide
 pub accepted-tables : (c : Tables) (xs l ls os : List ℕ) (r : Ran) (l′ ls′ os′ : List ℕ) → verdict c ≡ Accepted → LentRun c xs l ls os r l′ ls′ os′ → ChartRan c xs l ls os r l′ ls′ os′
 unfolding verdict chartRunChecks
 accepted-tables c xs l ls os r l′ ls′ os′ e p =
-    let v : runVerdict c xs l ls os ≡ laterVerdict c l xs ls os = then-later (checks c) _ e in
+    let v : runVerdict c xs l ls os ≡ laterVerdict c l xs ls os = go (checks c) _ (ap isRefused e) in
     record { answers = rw v (p .answers); state = rw v (p .state); leaves = rw v (p .leaves); outputs = rw v (p .outputs) }

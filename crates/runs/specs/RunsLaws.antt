@@ -3,7 +3,7 @@ use mathlib.Core.Path.{_≡_, refl, sym, ap, ap₂, _∙_}
 use mathlib.Core.Bool.{true, false, not, false≢true}
 use mathlib.Core.Logic.{inl, inr}
 use mathlib.Core.List.{List, [], _∷_, _++_, map, map-append}
-use Prim.Native.Nat.{ℕ, zero, suc, _+_, _≤_, _<_}
+use Prim.Native.Nat.{ℕ, zero, suc, _+_, _≤_}
 use native.Mathlib.Omega.{arith}
 use lib.ListN.{length, getD, take, replicate, length-append, length-replicate}
 use lib.Dec.{eqb}
@@ -14,6 +14,7 @@ use Rattle.meaning.specs.Tables.{Tables, stateCount, timerCount}
 use Rattle.meaning.specs.Literals.{inputOn}
 use Rattle.meaning.specs.Rules.{Rules}
 use Rattle.meaning.specs.Check.{Check, firstFailing, verdictOf, checks, verdict}
+use Rattle.chart.specs.Verdicts.{isRefused, go}
 use Rattle.meaning.specs.Calls.{stateCheck, scansCheck, chartRunChecks}
 use Rattle.meaning.specs.Verdict.{accepted-exactly}
 use Rattle.meaning.specs.Machine.{State, Seen, start, step, seen, trace, after}
@@ -30,7 +31,7 @@ use Rattle.lent.specs.declared.Ran.{Ran}
 use Rattle.lent.specs.declared.Ran.the-variants as A
 use Rattle.lent.specs.Slice.{laterVerdict, answer, left}
 use Rattle.lent.specs.RunLaws.{later}
-use Rattle.runs.specs.Runs.{runVerdict, ChartRan, then-later}
+use Rattle.runs.specs.Runs.{runVerdict, ChartRan}
 use Rattle.runs.specs.Steps.{chartStepChecks, stepVerdict, shown, ChartStepped}
 use Rattle.runs.specs.StepLaws.{done-accepted, shown-accepted, same-verdict}
 use Rattle.runs.specs.declared.Stepped.{Stepped}
@@ -72,12 +73,12 @@ module _ (c : Tables) (xs l ls os : List ℕ) where
   unfolding verdict chartRunChecks
   accepted-runnable e =
       let front = front-accepted (checks c) _ e in
-      let r = runnable-later (sym (then-later (checks c) _ front) ∙ e) in
+      let r = runnable-later (sym (go (checks c) _ (ap isRefused front)) ∙ e) in
       record { tables = front; state = r .0; leaves = r .1; outputs = r .2 }
 
   pub runnable-accepted : Runnable c xs l ls os → runVerdict c xs l ls os ≡ Accepted
   unfolding verdict chartRunChecks
-  runnable-accepted r = then-later (checks c) _ (r .tables) ∙ later c xs l ls os ∙ rw (r .state, eq-eqb (length ls) (length xs) (r .leaves), eq-eqb (length os) (length xs) (r .outputs))
+  runnable-accepted r = go (checks c) _ (ap isRefused (r .tables)) ∙ later c xs l ls os ∙ rw (r .state, eq-eqb (length ls) (length xs) (r .leaves), eq-eqb (length os) (length xs) (r .outputs))
 
 -- the number of scans that a run says it did
 done-scans : (c : Tables) (xs l ls os : List ℕ) (n : ℕ) (l′ ls′ os′ : List ℕ) → ChartRan c xs l ls os (A.Done n) l′ ls′ os′ → n ≡ length xs

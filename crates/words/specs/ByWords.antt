@@ -1,13 +1,13 @@
 -- What the loops over the words make, word by word, and that it is the program's.
-use mathlib.Core.Path.{_≡_, refl, sym, ap, ap₂, _∙_}
+use mathlib.Core.Path.{_≡_, refl, ap, ap₂}
 use Prim.Native.Nat.{ℕ, _+_, _<_, max}
 use native.Mathlib.Numerals.{add-one}
 use native.Mathlib.Omega.{arith}
 use lib.ListN.{length, getD, take, drop}
 use lib.Seq.{take-suc, drop-cons}
 use mathlib.Core.Bool.{true}
-use mathlib.Core.List.{List, [], _∷_, _++_, map, flatMap, append-assoc, append-nil}
-use Rattle.meaning.specs.RowsLaws.{and-l, and-r}
+use mathlib.Core.List.{List, [], _∷_, _++_, map, flatMap, append-nil}
+use Rattle.meaning.specs.RowsLaws.{and-l, and-r, flatMap-append}
 use Rattle.meaning.specs.Programs.{Program, instructions, all, fits, carried, bytesFor, flipFlopBytes}
 use Rattle.meaning.specs.declared.Operator.{Operator}
 use Rattle.format.specs.declared.Decoded.{Decoded}
@@ -58,14 +58,9 @@ holds-bytes h = rw (← h .listing) (bytes-same (instructions (h .program)) (pro
 
 -- ---- the steps of the loops
 
-lines-append : (l m : List ℕ) → flatMap wordLine (l ++ m) ≡ flatMap wordLine l ++ flatMap wordLine m
-unfolding flatMap
-lines-append [] m = refl
-lines-append (n ∷ l) m = ap (λ x. wordLine n ++ x) (lines-append l m) ∙ sym (append-assoc (wordLine n) (flatMap wordLine l) (flatMap wordLine m))
-
 pub lines-next : (l : List ℕ) (i : ℕ) → i < length l → flatMap wordLine (take (i + 1) l) ≡ flatMap wordLine (take i l) ++ wordLine (getD l i 0)
 unfolding flatMap
-lines-next l i h = rw (add-one, take-suc l i 0 h, lines-append (take i l) (getD l i 0 ∷ []), append-nil)
+lines-next l i h = rw (add-one, take-suc l i 0 h, flatMap-append wordLine (take i l) (getD l i 0 ∷ []), append-nil)
 
 pub bytes-next : (l : List ℕ) (i most k all : ℕ) → i < length l → k ≡ max most (decodedBytes (decoded (getD l i 0))) → max most (wordsBytes (drop i l)) ≡ all → max k (wordsBytes (drop (i + 1) l)) ≡ all
 unfolding wordsBytes

@@ -1,10 +1,11 @@
 -- The answers that the calls give are the ones that Answers allows.
-use mathlib.Core.Path.{_≡_, refl, ap, ap₂, _∙_}
+use mathlib.Core.Path.{_≡_, ap, ap₂, _∙_}
 use Prim.Native.Nat.{ℕ, _+_, _^_, _≤_, _<_}
 use native.Mathlib.Omega.{arith}
-use mathlib.Core.List.{List, [], _∷_, _++_}
+use mathlib.Core.List.{List, [], _++_}
 use lib.ListN.{length}
 use lib.Seq.{sets-eq}
+use Rattle.meaning.specs.RowsLaws.{no-length}
 use Rattle.meaning.specs.Calls.{overlaid}
 use Rattle.meaning.specs.declared.Refusal.the-variants.{Room}
 use Rattle.format.specs.Places.{room}
@@ -16,13 +17,9 @@ use Rattle.words.specs.declared.Sizes.the-variants as Sized
 use Rattle.words.specs.Answers.{TextWritten, WordsWritten, SizesTold}
 use Rattle.words.specs.ByWords.{wordsText, wordsBytes, holds-text, holds-bytes}
 
-empty : (m : List ℕ) → length m ≡ 0 → m ≡ []
-empty [] e = refl
-empty (b ∷ m) e = absurd (omega arith)
-
 -- a writer over no bytes measures, and writes nothing
 measured : {t m : List ℕ} {r : ℕ} → Put [] 0 t m r → m ≡ []
-measured {m = m} p = empty m (put-length p)
+measured {m = m} p = no-length m (put-length p)
 
 pub text-short : {t m : List ℕ} {r : ℕ} (out : List ℕ) → Put [] 0 t m r → length out < r → TextWritten t out (Refused (Room r)) (m ++ out)
 unfolding room

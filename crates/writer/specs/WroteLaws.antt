@@ -1,13 +1,14 @@
 -- From a text that is measured and then written to what the call leaves.
-use mathlib.Core.Path.{_≡_, refl, sym, ap, ap₂, _∙_}
+use mathlib.Core.Path.{_≡_, sym, ap, ap₂, _∙_}
 use mathlib.Core.Bool.{true, false, cond}
-use mathlib.Core.List.{List, [], _∷_, _++_}
+use mathlib.Core.List.{List, [], _++_}
 use Prim.Native.Nat.{ℕ, zero, suc, _+_, _≤_, _<_, min}
 use native.Mathlib.Omega.{arith}
 use lib.ListN.{length, take, drop}
 use lib.Seq.{sets, sets-eq}
 use lib.Dec.{leb}
 use borrow.Author.Tests.{le-leb, lt-leb}
+use Rattle.meaning.specs.RowsLaws.{no-length}
 use Rattle.meaning.specs.Tables.{Tables}
 use Rattle.meaning.specs.Calls.{overlaid}
 use Rattle.meaning.specs.declared.Refusal.the-variants as R
@@ -18,14 +19,10 @@ use Rattle.writer.specs.declared.Written.{Written}
 use Rattle.writer.specs.declared.Written.the-variants.{Wrote, Refused}
 use Rattle.writer.specs.Wrote.{TextWritten}
 
-nothing : (l : List ℕ) → length l ≡ 0 → l ≡ []
-nothing [] e = refl
-nothing (x ∷ l) e = absurd (omega arith)
-
 -- a slice is shorter than the largest number
 module _ (c : Tables) (l : List ℕ) (short : length l < 18446744073709551615) (m : List ℕ) (r : ℕ) (measured : Put [] 0 (chartText c) m r) where
   kept : m ++ l ≡ l
-  kept = ap (λ x. x ++ l) (nothing m (put-length measured))
+  kept = ap (λ x. x ++ l) (no-length m (put-length measured))
 
   pub refuses : length l < r → TextWritten c l (Refused (R.Room r)) (m ++ l)
   unfolding room

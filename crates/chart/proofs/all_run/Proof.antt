@@ -1,8 +1,7 @@
 use Rattle.chart.specs.Idle.{Running, runsAt}
-use Rattle.rules.specs.Loops.{every-no}
 use Rattle.meaning.specs.Literals.{kindOf}
 use Rattle.meaning.specs.Tables.{Tables, literal}
-use Rattle.meaning.specs.RowsLaws.{every-intro}
+use Rattle.meaning.specs.RowsLaws.{every-intro, every-no}
 use mir.Facts.{toZ-ofZ}
 use lib.IntN.{natAbs}
 use borrow.Author.Tests.{not-true, not-false}

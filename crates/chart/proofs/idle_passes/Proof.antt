@@ -1,8 +1,7 @@
 use Rattle.chart.specs.Idle.{Ready, leafPasses, idle-leaves}
-use Rattle.rules.specs.Loops.{every-no}
 use Rattle.tables.specs.Given.{state-count}
 use Rattle.meaning.specs.Tables.{Tables, stateCount}
-use Rattle.meaning.specs.RowsLaws.{every-intro}
+use Rattle.meaning.specs.RowsLaws.{every-intro, every-no}
 use lib.ListN.{length}
 use borrow.Author.Tests.{not-true, not-false}
 use borrow.Author.Count.{below-none, below-more}

@@ -1,23 +1,15 @@
-use lib.ListN.{getD, replicate, length-replicate, getD-replicate, List·getD-eq-default}
-use native.Mathlib.Decide.{decLe}
-use native.Mathlib.Omega.{arith}
-use mathlib.Core.Path.{_≡_}
+use Rattle.meaning.specs.RowsLaws.{getD-equal}
+use lib.ListN.{length-replicate}
 use Prim.Native.Nat.{ℕ}
 use borrow.Author.Needs.{needs}
 use Rattle.chart.proofs.judge_timers.Statement.{statement}
 use Rattle.chart.proofs.judge_timers.Tie as tie
 
-zeros : (n x : ℕ) → getD {A = ℕ} (replicate n 0) x 0 ≡ 0
-zeros n x = elim (decLe n x) [
-  | yes h ↦ List·getD-eq-default {A = ℕ} (replicate n 0) 0 (omega (arith, length-replicate {A = ℕ} n 0))
-  | no h ↦ getD-replicate {A = ℕ} n x 0 0 (omega arith)
-]
-
 slice-aggregate-mark-running : tie.Need-slice-aggregate-mark-running
 slice-aggregate-mark-running c = search needs
 
 mark-running-requires : tie.Need-mark-running-requires
-mark-running-requires c κs = (length-replicate {A = ℕ} 8192 0, zeros 8192)
+mark-running-requires c κs = (length-replicate {A = ℕ} 8192 0, getD-equal 0 8192)
 
 slice-aggregate-judge-idle : tie.Need-slice-aggregate-judge-idle
 slice-aggregate-judge-idle c = search needs

@@ -1,4 +1,5 @@
-use Rattle.chart.specs.Idle.{leafPasses, leaf-initial}
+use Rattle.chart.specs.Idle.{leafPasses}
+use Rattle.meaning.specs.RuleLaws.{leaf-initial}
 use borrow.Author.Tests.{eq-eqb, ne-eqb, not-true, not-false}
 use native.Mathlib.Omega.{arith}
 use borrow.Author.Needs.{needs}

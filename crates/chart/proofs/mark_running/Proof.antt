@@ -1,8 +1,8 @@
-use Rattle.rules.specs.Loops.{some-more}
 use Rattle.tables.specs.Given.{rowPaired}
 use Rattle.meaning.specs.Hierarchy.{paired, runs}
 use Rattle.meaning.specs.Tables.{Tables, pairCount}
 use Rattle.meaning.specs.Rows.{some}
+use Rattle.meaning.specs.RowsLaws.{some-more}
 use lib.ListN.{length, getD}
 use lib.Dec.{eqb}
 use native.Mathlib.Numerals.{add-one}

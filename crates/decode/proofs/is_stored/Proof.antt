@@ -1,6 +1,6 @@
-use Rattle.format.specs.DecodeLaws.{or-false}
 use Rattle.meaning.specs.Literals.{between}
 use mathlib.Core.Path.{sym}
+use mathlib.Core.Bool.{or-false}
 use Rattle.format.specs.Decode.{inputFits}
 use Rattle.meaning.specs.Programs.{outputFits}
 use borrow.Author.Needs.{needs}

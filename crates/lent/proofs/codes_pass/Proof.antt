@@ -5,9 +5,8 @@ use Prim.Native.Nat.{ℕ, _≤_, _<_, _-_}
 use lib.Dec.{ltb}
 use borrow.Author.Tests.{lt-ltb, le-ltb}
 use borrow.Author.Count.{below-more}
-use Rattle.meaning.specs.RowsLaws.{every-intro}
+use Rattle.meaning.specs.RowsLaws.{every-intro, every-no}
 use Rattle.meaning.specs.Machine.{remembered}
-use Rattle.paths.specs.FlagsLaws.{every-no}
 use Rattle.lent.proofs.codes_pass.Statement.{statement}
 use Rattle.lent.proofs.codes_pass.Tie as tie
 

@@ -3,9 +3,10 @@ use mathlib.Core.Path.{sym, _∙_}
 use borrow.Author.Tests.{not-true, not-false}
 use Rattle.meaning.specs.Machine.{step, Valid}
 use Rattle.meaning.specs.MachineLaws.{after-valid}
+use Rattle.meaning.specs.LentLaws.{lent-valid}
 use Rattle.machine.specs.Held.{held}
 use Rattle.lent.specs.Slice.{left}
-use Rattle.lent.specs.SliceLaws.{state-valid, right-length}
+use Rattle.lent.specs.SliceLaws.{right-length}
 use Rattle.lent.specs.RunLaws.{refused-state, refused-leaves, refused-outputs, done}
 use Rattle.lent.proofs.run_checked.Statement.{statement}
 use Rattle.lent.proofs.run_checked.Tie as tie
@@ -67,7 +68,7 @@ returns-4 c c' g R =
     let long = right-length c' R l passes in
     let m = c .before .before .before .before .before .before .before .before .before .before .before .decode .result in
     let from = c .before .before .before .before .before .before .before .before .before .before .before .decode .ensures c' (g .states) R long in
-    let v : Valid c' (held c' (m .memory) (m .timers)) = rw from (state-valid c' R l passes) in
+    let v : Valid c' (held c' (m .memory) (m .timers)) = rw from (lent-valid c' R l passes) in
     let s = c .before .before .before .before .before .before .before .before .run .ensures c' g R v (c .before .before .before .before .before .before .before .before .before .before .before .before .before .before .if2 .left) (c .before .before .before .before .before .before .before .before .before .before .before .before .before .if3 .left) in
     let w : Valid c' (held c' (c .before .before .before .before .before .before .before .before .run .result .memory) (c .before .before .before .before .before .before .before .before .run .result .timers)) = rw (s .state) (after-valid c' R (a .inputs .now) _ v) in
     done c' (a .inputs .now) l (a .leaves .now) (a .outputs .now) passes (c .before .before .before .before .before .before .before .before .before .before .before .before .before .before .if2 .left) (c .before .before .before .before .before .before .before .before .before .before .before .before .before .if3 .left) (held c' (c .before .before .before .before .before .before .before .before .run .result .memory) (c .before .before .before .before .before .before .before .before .run .result .timers))

@@ -1,11 +1,11 @@
 use borrow.Author.Needs.{needs}
 use native.Mathlib.Omega.{arith}
 use Prim.Native.Nat.{_%_}
+use mathlib.Core.Bool.{and-false}
 use lib.Dec.{eqb}
 use borrow.Author.Tests.{eq-eqb, ne-eqb, le-leb, lt-leb}
 use Rattle.meaning.specs.Tables.{preset}
 use Rattle.meaning.specs.Machine.{step}
-use Rattle.paths.specs.FlagsLaws.{and-no}
 use Rattle.machine.specs.Held.{longest}
 use Rattle.lent.specs.Slice.{left}
 use Rattle.lent.proofs.value_passes.Statement.{statement}
@@ -26,7 +26,7 @@ longest-requires c κs = search needs
 returns-3 : tie.Need-returns-3
 returns-3 c h =
     let a = c .before .before .before .before .args in
-    rw (lt-leb (a .value) (longest (a .step) (a .preset)) (omega (arith, c .before .longest .ensures)), and-no (eqb (a .value % a .step) 0))
+    rw (lt-leb (a .value) (longest (a .step) (a .preset)) (omega (arith, c .before .longest .ensures)), and-false (eqb (a .value % a .step) 0))
 
 returns-4 : tie.Need-returns-4
 returns-4 c h =

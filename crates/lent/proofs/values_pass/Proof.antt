@@ -7,10 +7,9 @@ use lib.ListN.{length, getD}
 use borrow.Author.Tests.{not-true, not-false}
 use native.Mathlib.Numerals.{add-one}
 use borrow.Author.Count.{below-more}
-use Rattle.meaning.specs.RowsLaws.{every-intro}
+use Rattle.meaning.specs.RowsLaws.{every-intro, every-no}
 use Rattle.meaning.specs.Machine.{step}
 use Rattle.paths.specs.Flags.{on}
-use Rattle.paths.specs.FlagsLaws.{every-no}
 use Rattle.lent.specs.Slice.{valuePasses, rowPasses, answer, left}
 use Rattle.lent.proofs.values_pass.Statement.{statement}
 use Rattle.lent.proofs.values_pass.Tie as tie

@@ -1,7 +1,7 @@
 use borrow.Author.Needs.{needs}
 use native.Mathlib.Omega.{arith}
+use Rattle.format.specs.Decimals.{decimal-small, decimal-last}
 use Rattle.lines.specs.Put.{put-put}
-use Rattle.lines.specs.Decimals.{decimal-small, decimal-more}
 use Prim.Native.Nat.{ℕ, _<_}
 use borrow.Fn.Kinds.{In}
 use borrow.Fn.PlainCycle.{Measures, is, falls, and}
@@ -122,7 +122,7 @@ put-decimal-returns-2 : (t : ℕ) → put-decimal-lts.Need-returns-2 (
   put-decimal.Post,
 ) (put-decimal-at t) put-decimal.Post
 put-decimal-returns-2 t c =
-    rw (decimal-more (c .before .before .before .before .before .before .before .before .before .before .args .n) (omega arith) (omega arith))
+    rw (decimal-last (c .before .before .before .before .before .before .before .before .before .before .args .n) (omega arith) (omega arith))
     (search (needs, put-put))
 
 pub +put-decimal-spec : {M : Type 1} → statement M

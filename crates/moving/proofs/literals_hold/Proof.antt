@@ -4,12 +4,11 @@ use mathlib.Core.Bool.{true, false}
 use Prim.Native.Nat.{ℕ, _≤_, _<_, _-_}
 use borrow.Author.Tests.{not-true, not-false}
 use borrow.Author.Count.{below-more}
-use Rattle.meaning.specs.RowsLaws.{every-intro}
+use Rattle.meaning.specs.RowsLaws.{every-intro, every-no}
 use Rattle.meaning.specs.Tables.{Tables, literal}
 use Rattle.meaning.specs.Literals.{holds, literalsHold}
 use Rattle.meaning.specs.Machine.{expired}
 use Rattle.moving.specs.Moves.{read}
-use Rattle.paths.specs.FlagsLaws.{every-no}
 use mir.Facts.{toZ-ofZ}
 use borrow.Author.Needs.{sfits-of}
 use Rattle.moving.proofs.literals_hold.Statement.{statement}

@@ -1,12 +1,12 @@
 use native.Mathlib.Omega.{arith}
 use mathlib.Core.Path.{_≡_, refl, ap, sym, _∙_}
-use mathlib.Core.Bool.{Bool, true, false, _&&_, _||_}
+use mathlib.Core.Bool.{Bool, true, false, _&&_, _||_, or-false}
 use Prim.Native.Nat.{ℕ, suc, _≤_, _<_, _-_, _+_}
 use lib.ListN.{length, set, getD-replicate}
 use lib.Dec.{eqb, ltb}
 use borrow.Author.Tests.{eq-eqb, ne-eqb, lt-ltb, le-ltb, ltb-true, ltb-false}
 use Rattle.paths.specs.Flags.{on, expiredAt}
-use Rattle.paths.specs.FlagsLaws.{or-no, on-set-if}
+use Rattle.paths.specs.FlagsLaws.{on-set-if}
 use native.Mathlib.Decide.{ℕ-discrete}
 use Rattle.paths.proofs.expired_of.Statement.{statement}
 use Rattle.paths.proofs.expired_of.Tie as tie
@@ -22,7 +22,7 @@ abbrev μ-loop : tie.MeasureT-loop
 one-more : (e : ℕ → Bool) (i j : ℕ) → ((ltb j i && e j) || (eqb (i + 1) (suc j) && e i)) ≡ (ltb j (i + 1) && e j)
 one-more e i j = elim (ℕ-discrete i j) [
   | yes x ↦ rw (x, le-ltb j j (omega arith), eq-eqb (j + 1) (suc j) (omega arith), lt-ltb j (j + 1) (omega arith))
-  | no x ↦ rw (ne-eqb (i + 1) (suc j) (λ z. x (omega arith)), or-no (ltb j i && e j)) (ap (λ b. b && e j) (later (ltb j i) refl x))
+  | no x ↦ rw (ne-eqb (i + 1) (suc j) (λ z. x (omega arith)), or-false (ltb j i && e j)) (ap (λ b. b && e j) (later (ltb j i) refl x))
 ]
   where
     later : (b : Bool) → ltb j i ≡ b → (i ≡ j → ⊥) → b ≡ ltb j (i + 1)

@@ -5,9 +5,9 @@ use lib.ListN.{length, getD-replicate}
 use lib.Dec.{eqb}
 use native.Mathlib.Numerals.{add-one}
 use Rattle.meaning.specs.Rows.{some}
+use Rattle.meaning.specs.RowsLaws.{some-more}
 use Rattle.meaning.specs.Tables.{pairCount}
 use Rattle.paths.specs.Flags.{on, rowOn}
-use Rattle.paths.specs.FlagsLaws.{some-more}
 use Rattle.paths.proofs.paired_on.Statement.{statement}
 use Rattle.paths.proofs.paired_on.Tie as tie
 

@@ -5,10 +5,11 @@ use lib.ListN.{length, length-set, getD-replicate}
 use lib.Dec.{eqb}
 use native.Mathlib.Numerals.{add-one}
 use Rattle.meaning.specs.Rows.{some}
+use Rattle.meaning.specs.RowsLaws.{some-more}
 use Rattle.meaning.specs.Tables.{Tables}
 use Rattle.meaning.specs.Hierarchy.{up, atOrAbove}
 use Rattle.paths.specs.Flags.{on}
-use Rattle.paths.specs.FlagsLaws.{on-set, some-more}
+use Rattle.paths.specs.FlagsLaws.{on-set}
 use Rattle.paths.proofs.path_of.Statement.{statement}
 use Rattle.paths.proofs.path_of.Tie as tie
 

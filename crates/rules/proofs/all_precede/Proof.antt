@@ -1,7 +1,6 @@
-use Rattle.rules.specs.Loops.{every-no}
 use Rattle.meaning.specs.Check.{mayPrecede}
 use Rattle.meaning.specs.Tables.{Tables}
-use Rattle.meaning.specs.RowsLaws.{every-intro}
+use Rattle.meaning.specs.RowsLaws.{every-intro, every-no}
 use borrow.Author.Tests.{not-true, not-false}
 use borrow.Author.Count.{below-none, below-more}
 use native.Mathlib.Omega.{arith}

@@ -3,7 +3,8 @@ use mathlib.Core.Bool.{true, false}
 use mathlib.Core.List.{_++_}
 use native.Mathlib.Omega.{arith}
 use Rattle.meaning.specs.Tables.{source, target, mark}
-use Rattle.meaning.specs.TestLaws.{source-known, target-known}
+use Rattle.meaning.specs.MachineLaws.{target-known}
+use Rattle.meaning.specs.TestLaws.{source-known}
 use Rattle.meaning.specs.Programs.{chainOf}
 use Rattle.meaning.specs.Written.{stateTests, literalTests, chain}
 use Rattle.bits.specs.SentLaws.{put-lines, put-nil, sent-sent, chain-put, state-tests}
