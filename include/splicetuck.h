@@ -14,6 +14,7 @@
 #ifndef SPLICETUCK_H
 #define SPLICETUCK_H
 
+#include <stdbool.h>
 #include <stddef.h>
 #include <stdint.h>
 
@@ -175,6 +176,52 @@ struct splicetuck_step splicetuck_step_chart(
     const uint16_t *timer_pairs, size_t timer_pairs_len,
     const uint16_t *output_pairs, size_t output_pairs_len,
     uint32_t *state, size_t state_len,
+    uint64_t word_in);
+
+/* A timer block: IN, PT, ET, Q and the IN of the last call. */
+struct splicetuck_block {
+    bool on;
+    uint32_t pt;
+    uint32_t et;
+    bool q;
+    bool last;
+};
+
+/* Runs a list of instruction words over all scans, from the lent controller on.
+ * flip_flops: a byte of 0 or 1 for each %MX from %MX0; blocks: T1 first; all
+ * zero is the start. words_in: an input word a scan, of which the instructions
+ * read all 64 bits.
+ * Refusals: SIZE when step is not 1 to 1,000; TEXT with the index of a word, or
+ * words_len; STATE when flip_flops_len or blocks_len is not what
+ * splicetuck_sizes_of tells, a flip-flop byte is not 0 or 1, or a block's et is
+ * above its rung's time; SCANS when words_out_len differs from scans.
+ * Writes flip_flops and blocks as the last scan leaves them, and for each scan
+ * the output word to words_out; length is scans. */
+struct splicetuck_answer splicetuck_run_program(
+    uint32_t step,
+    const uint32_t *words, size_t words_len,
+    uint8_t *flip_flops, size_t flip_flops_len,
+    struct splicetuck_block *blocks, size_t blocks_len,
+    const uint64_t *words_in, size_t scans,
+    uint64_t *words_out, size_t words_out_len);
+
+/* What a scan answers: the number and place of the refusal, or 0 and 0, and the
+ * output word, which is 0 on refusal. */
+struct splicetuck_scan {
+    uint32_t number;
+    uint64_t place;
+    uint64_t outputs;
+};
+
+/* Runs a list of instruction words over one scan, from the lent controller on;
+ * everything is as in splicetuck_run_program, with one input word and its output
+ * word in the answer.
+ * Refusals: SIZE, TEXT, STATE. */
+struct splicetuck_scan splicetuck_scan_program(
+    uint32_t step,
+    const uint32_t *words, size_t words_len,
+    uint8_t *flip_flops, size_t flip_flops_len,
+    struct splicetuck_block *blocks, size_t blocks_len,
     uint64_t word_in);
 
 #endif

@@ -1,6 +1,5 @@
 /* splicetuck_run_program against the reference. */
 #include "agree.h"
-#include "run_program.h"
 
 #include <stdlib.h>
 #include <string.h>

@@ -22,6 +22,11 @@ use Rattle.runs.specs.declared.Stepped.{Stepped}
 use Rattle.runs.specs.declared.Stepped.the-variants as P
 use Rattle.capi.specs.declared.Step.{Step}
 use Rattle.capi.specs.declared.Controller.{Controller}
+use Rattle.programs.specs.declared.Ran.{Ran as ProgramAnswer}
+use Rattle.programs.specs.declared.Ran.the-variants as P
+use Rattle.programs.specs.declared.Scanned.{Scanned as ScanAnswer}
+use Rattle.programs.specs.declared.Scanned.the-variants as O
+use Rattle.capi.specs.declared.Scan.{Scan}
 use Rattle.capi.specs.declared.Answer.{Answer}
 
 pub record Told (v : Verdict) (n : ℕ) (a : Answer) : Type 0 where
@@ -96,3 +101,24 @@ LengthTold c a = Told (verdict c) (lengthFor c (verdict c)) a
 abbrev pub ReadTold : ReadAnswer → Answer → Type 0
 ReadTold (D.Read n) a = Told G.Accepted n a
 ReadTold (D.Refused r) a = Told (G.Refused r) 0 a
+
+abbrev pub ProgramTold : ProgramAnswer → Answer → Type 0
+ProgramTold (P.Done n) a = Told G.Accepted n a
+ProgramTold (P.Refused r) a = Told (G.Refused r) 0 a
+
+-- the output word of a scan, or why there is none
+pub record ScanGiven (n p o : ℕ) (a : Scan) : Type 0 where
+  pub number : a .number ≡ n
+  pub place : a .place ≡ p
+  pub outputs : a .outputs ≡ o
+
+abbrev pub ScanTold : ScanAnswer → Scan → Type 0
+ScanTold (O.Outputs w) a = ScanGiven 0 0 w a
+ScanTold (O.Refused r) a = ScanGiven (numberOf r) (placeOf r) 0 a
+
+pub one-scan-answer : (n p o : ℕ) (a b : Scan) → ScanGiven n p o a → ScanGiven n p o b → a ≡ b
+one-scan-answer n p o a b f g = λ i. record {
+  number = (f .number ∙ sym (g .number)) i;
+  place = (f .place ∙ sym (g .place)) i;
+  outputs = (f .outputs ∙ sym (g .outputs)) i;
+}

@@ -1,6 +1,7 @@
 // The product's calls for C: numbers, and slices as a pointer and a length. include/splicetuck.h declares them.
 use file::File;
 use lent::Ran;
+use meaning::Block;
 use meaning::Refusal;
 use meaning::Verdict;
 use runs::Stepped;
@@ -25,6 +26,11 @@ ghost use Rattle.words.specs.Answers.{WordsWritten, SizesTold};
 ghost use Rattle.words.specs.declared.Written.{Written};
 ghost use Rattle.words.specs.declared.Sizes.{Sizes};
 ghost use Rattle.capi.specs.Files.{fileOf, RecordsTold, KindRead};
+ghost use Rattle.il.specs.Scans.{holding};
+ghost use Rattle.programs.specs.Runs.{ProgramRan, ProgramScanned};
+ghost use Rattle.programs.specs.declared.Ran.{Ran as ProgramAnswer};
+ghost use Rattle.programs.specs.declared.Scanned.{Scanned as ScanAnswer};
+ghost use Rattle.capi.specs.Answers.{ProgramTold, ScanTold};
 
 // Document 01's number of the answer, its place, and how much was written.
 #[repr(C)]
@@ -385,4 +391,74 @@ pub extern "C" fn splicetuck_read_records(kind: u32, bytes: &[u8], out: &mut [u6
         return refused(Refusal::Size);
     }
     tell_records(file::read_records(file_of(kind), bytes, out))
+}
+
+fn tell_program(r: programs::Ran) -> Answer
+    ensures { λ a. ⌜ ProgramTold r a ⌝ }
+{
+    match r {
+        programs::Ran::Done(n) => Answer {
+            number: 0,
+            place: 0,
+            length: n,
+        },
+        programs::Ran::Refused(q) => refused(q),
+    }
+}
+
+// The run of a program over a lent controller: refusals SIZE, TEXT, STATE, SCANS.
+#[no_mangle]
+pub extern "C" fn splicetuck_run_program(
+    step: u32,
+    words: &[u32],
+    flip_flops: &mut [u8],
+    blocks: &mut [Block],
+    words_in: &[u64],
+    words_out: &mut [u64],
+) -> Answer
+    ensures { λ a. ⌜ ((r : ProgramAnswer) × ProgramRan step (now (words .entry)) (now («words_in» .entry)) (holding (now («flip_flops» .entry)) (now (blocks .entry))) (now («words_out» .entry)) r
+        (holding (now («flip_flops» .exit)) (now (blocks .exit))) (now («words_out» .exit)) × ProgramTold r a) ⌝ }
+{
+    let r = programs::run_program(step, words, flip_flops, blocks, words_in, words_out);
+    tell_program(r)
+}
+
+// Document 01's number of the answer, its place, and the output word of a scan.
+#[repr(C)]
+pub struct Scan {
+    pub number: u32,
+    pub place: usize,
+    pub outputs: u64,
+}
+
+fn tell_scan(r: programs::Scanned) -> Scan
+    ensures { λ a. ⌜ ScanTold r a ⌝ }
+{
+    match r {
+        programs::Scanned::Outputs(w) => Scan {
+            number: 0,
+            place: 0,
+            outputs: w,
+        },
+        programs::Scanned::Refused(q) => Scan {
+            number: meaning::number(q),
+            place: meaning::place(q),
+            outputs: 0,
+        },
+    }
+}
+
+// One scan of a program over a lent controller: refusals SIZE, TEXT, STATE.
+#[no_mangle]
+pub extern "C" fn splicetuck_scan_program(
+    step: u32,
+    words: &[u32],
+    flip_flops: &mut [u8],
+    blocks: &mut [Block],
+    word_in: u64,
+) -> Scan
+    ensures { λ a. ⌜ ((r : ScanAnswer) × ProgramScanned step (now (words .entry)) «word_in» (holding (now («flip_flops» .entry)) (now (blocks .entry))) r (holding (now («flip_flops» .exit)) (now (blocks .exit))) × ScanTold r a) ⌝ }
+{
+    let r = programs::scan_program(step, words, flip_flops, blocks, word_in);
+    tell_scan(r)
 }

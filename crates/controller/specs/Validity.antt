@@ -31,7 +31,7 @@ mapped [] t r h = absurd (omega arith)
 mapped (s ∷ ts) zero r h = refl
 mapped (s ∷ ts) (suc t) r h = mapped ts t r (omega arith)
 
-time-at : (ts : List TimerRung) (t : ℕ) (r : TimerRung) → t < length ts → length ts ≤ 32 → getD (sets (replicate 32 0) 0 (map (λ (s : TimerRung). s .time) ts)) t 0 ≡ getD ts t r .time
+pub time-at : (ts : List TimerRung) (t : ℕ) (r : TimerRung) → t < length ts → length ts ≤ 32 → getD (sets (replicate 32 0) 0 (map (λ (s : TimerRung). s .time) ts)) t 0 ≡ getD ts t r .time
 time-at ts t r h g =
     let m : List ℕ = map (λ (s : TimerRung). s .time) ts in
     let e : length m ≡ length ts = length-map ts (λ (s : TimerRung). s .time) in
@@ -39,7 +39,7 @@ time-at ts t r h g =
     let f : length z ≡ 32 = refl in
     rw (sets-eq m z 0 (omega arith)) (List·getD-append m (drop (0 + length m) z) 0 t (omega arith) ∙ mapped ts t r h)
 
-some-rung : TimerRung
+pub some-rung : TimerRung
 some-rung = record { body = record { first = record { wanted = true; operand = True }; parts = [] }; time = 0 }
 
 -- what the tests come to

@@ -130,7 +130,7 @@ pub fn controller_size(words: &[u32]) -> Sizes
 }
 
 // "byte not 0 or 1"
-fn are_bits(ff: &[u8]) -> bool
+pub fn are_bits(ff: &[u8]) -> bool
     ensures { λ r. ⌜ (r ≡ Bool.true) ↔ AreBits (now (ff .entry)) ⌝ }
 {
     let mut i = 0;

@@ -67,7 +67,7 @@ scan-right d x p ws k f h =
     (sym (e ∙ rw (s .ff, s .blocks)), s .outputs)
 
 -- the number of blocks stays
-after-length : (d x : ℕ) (p : Program) (ws : List ℕ) (k : Controller) → Fitting p ws → length (k .blocks) ≤ 64 → length (afterScan d x ws k .blocks) ≤ 64
+pub after-length : (d x : ℕ) (p : Program) (ws : List ℕ) (k : Controller) → Fitting p ws → length (k .blocks) ≤ 64 → length (afterScan d x ws k .blocks) ≤ 64
 unfolding afterScan
 after-length d x p ws k f h = scan-same d x p ws k f h .few
 

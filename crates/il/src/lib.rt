@@ -72,7 +72,7 @@ pub fn resume(p: Stop, q: bool) -> Stop
     }
 }
 
-fn begin(qs: u64) -> Stop
+pub fn begin(qs: u64) -> Stop
     ensures { λ r. ⌜ (r .at ≡ 0) × (r .running ≡ fresh qs) ⌝ }
 {
     let s = Running {
@@ -140,7 +140,7 @@ pub fn scan_core(words: &[u32], step: u32, x: u64, ff: &mut [u8], row: [Block; 3
     }
 }
 
-fn put_word(results: &mut [u64], i: usize, w: u64)
+pub fn put_word(results: &mut [u64], i: usize, w: u64)
     ensures { λ _. ⌜ now (results .exit) ≡ set (now (results .entry)) i w ⌝ }
 {
     if i < results.len() {
