@@ -224,4 +224,25 @@ struct splicetuck_scan splicetuck_scan_program(
     struct splicetuck_block *blocks, size_t blocks_len,
     uint64_t word_in);
 
+/* Writes the chart's text, reads that text back as instruction words, and runs
+ * the words from cleared memory, one scan for each of words_in.
+ * Refusals: 1 to 11; SCANS when leaves_len or words_out_len differs from scans;
+ * ROOM with the text's length when text_len or words_len is below it: a text
+ * never has more words than bytes.
+ * Writes the text to the front of text and its words to the front of words, and
+ * for each scan the leaf that the flip-flops show to leaves and the output word
+ * to words_out; length is the text's. */
+struct splicetuck_answer splicetuck_run_written(
+    uint32_t step, uint32_t inputs, uint32_t outputs,
+    const uint16_t *states, size_t states_len,
+    const int16_t *moves, size_t moves_len,
+    const uint32_t *presets, size_t presets_len,
+    const uint16_t *timer_pairs, size_t timer_pairs_len,
+    const uint16_t *output_pairs, size_t output_pairs_len,
+    uint8_t *text, size_t text_len,
+    uint32_t *words, size_t words_len,
+    const uint64_t *words_in, size_t scans,
+    uint16_t *leaves, size_t leaves_len,
+    uint64_t *words_out, size_t words_out_len);
+
 #endif

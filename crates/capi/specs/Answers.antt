@@ -19,8 +19,10 @@ use Rattle.words.specs.declared.Written.the-variants as W
 use Rattle.words.specs.declared.Sizes.{Sizes}
 use Rattle.words.specs.declared.Sizes.the-variants as S
 use Rattle.runs.specs.declared.Stepped.{Stepped}
-use Rattle.runs.specs.declared.Stepped.the-variants as P
+use Rattle.runs.specs.declared.Stepped.the-variants as N
 use Rattle.capi.specs.declared.Step.{Step}
+use Rattle.whole.specs.declared.Outcome.{Outcome}
+use Rattle.whole.specs.declared.Outcome.the-variants as K
 use Rattle.capi.specs.declared.Controller.{Controller}
 use Rattle.programs.specs.declared.Ran.{Ran as ProgramAnswer}
 use Rattle.programs.specs.declared.Ran.the-variants as P
@@ -63,13 +65,13 @@ same-step n p l o a b x y = λ i. record {
 }
 
 abbrev pub StepTold : Stepped → Step → Type 0
-StepTold (P.Done l o) a = StepGiven 0 0 l o a
-StepTold (P.Refused r) a = StepGiven (numberOf r) (placeOf r) 0 0 a
+StepTold (N.Done l o) a = StepGiven 0 0 l o a
+StepTold (N.Refused r) a = StepGiven (numberOf r) (placeOf r) 0 0 a
 
 -- no second answer
 pub one-scan-told : (s : Stepped) (a b : Step) → StepTold s a → StepTold s b → a ≡ b
-one-scan-told (P.Done l o) a b p q = same-step 0 0 l o a b p q
-one-scan-told (P.Refused r) a b p q = same-step (numberOf r) (placeOf r) 0 0 a b p q
+one-scan-told (N.Done l o) a b p q = same-step 0 0 l o a b p q
+one-scan-told (N.Refused r) a b p q = same-step (numberOf r) (placeOf r) 0 0 a b p q
 
 abbrev pub WrittenTold : Written → Answer → Type 0
 WrittenTold (W.Wrote n) a = Told G.Accepted n a
@@ -122,3 +124,8 @@ one-scan-answer n p o a b f g = λ i. record {
   place = (f .place ∙ sym (g .place)) i;
   outputs = (f .outputs ∙ sym (g .outputs)) i;
 }
+
+-- a text that was written, read back and run tells its length
+abbrev pub OutcomeTold : Outcome → Answer → Type 0
+OutcomeTold (K.Ran n m) a = Told G.Accepted n a
+OutcomeTold (K.Refused r) a = Told (G.Refused r) 0 a

@@ -6,6 +6,7 @@ use meaning::Refusal;
 use meaning::Verdict;
 use runs::Stepped;
 use tables::Chart;
+use whole::Outcome;
 use words::Sizes;
 use words::Written;
 ghost use mathlib.Core.Path.{_≡_};
@@ -22,6 +23,9 @@ ghost use Rattle.writer.specs.declared.Written.{Written as Text};
 ghost use Rattle.capi.specs.Answers.{TextTold, LengthTold, ReadTold};
 ghost use Rattle.reader.specs.Reads.{TextRead};
 ghost use Rattle.reader.specs.declared.Answer.{Answer as ReadAnswer};
+ghost use Rattle.capi.specs.Answers.{OutcomeTold};
+ghost use Rattle.whole.specs.WrittenRan.{WrittenRan};
+ghost use Rattle.whole.specs.declared.Outcome.{Outcome};
 ghost use Rattle.words.specs.Answers.{WordsWritten, SizesTold};
 ghost use Rattle.words.specs.declared.Written.{Written};
 ghost use Rattle.words.specs.declared.Sizes.{Sizes};
@@ -461,4 +465,57 @@ pub extern "C" fn splicetuck_scan_program(
 {
     let r = programs::scan_program(step, words, flip_flops, blocks, word_in);
     tell_scan(r)
+}
+
+fn tell_outcome(o: Outcome) -> Answer
+    ensures { λ a. ⌜ OutcomeTold o a ⌝ }
+{
+    match o {
+        Outcome::Ran { text, words: _ } => Answer {
+            number: 0,
+            place: 0,
+            length: text,
+        },
+        Outcome::Refused(r) => refused(r),
+    }
+}
+
+// The text of a chart written, read back and run from cleared memory: refusals 1 to 11, SCANS, ROOM.
+#[no_mangle]
+pub extern "C" fn splicetuck_run_written(
+    step: u32,
+    inputs: u32,
+    outputs: u32,
+    states: &[u16],
+    moves: &[i16],
+    presets: &[u32],
+    timer_pairs: &[u16],
+    output_pairs: &[u16],
+    text: &mut [u8],
+    words: &mut [u32],
+    words_in: &[u64],
+    leaves: &mut [u16],
+    words_out: &mut [u64],
+) -> Answer
+    ensures { λ a. ⌜ ((o : Outcome) × WrittenRan (tablesOf (record { step = step; inputs = inputs; outputs = outputs }) (now (states .entry)) (now (moves .entry)) (now (presets .entry)) (now («timer_pairs» .entry)) (now («output_pairs» .entry)))
+        (now («words_in» .entry)) (now (text .entry)) (now (words .entry)) (now (leaves .entry)) (now («words_out» .entry)) o (now (text .exit)) (now (words .exit)) (now (leaves .exit)) (now («words_out» .exit)) × OutcomeTold o a) ⌝ }
+{
+    let chart = Chart {
+        step: step,
+        inputs: inputs,
+        outputs: outputs,
+    };
+    tell_outcome(whole::run_written(
+        chart,
+        states,
+        moves,
+        presets,
+        timer_pairs,
+        output_pairs,
+        text,
+        words,
+        words_in,
+        leaves,
+        words_out,
+    ))
 }

@@ -21,5 +21,6 @@ pub mod Pages
 pub mod PageLaws
 pub mod TextLaws
 pub mod TextPlaces
+pub mod Bytes
 pub mod TextReader
 pub mod ReaderCases

@@ -21,7 +21,7 @@ use Rattle.lent.specs.declared.Ran.the-variants as A
 use Rattle.lent.specs.Slice.{laterVerdict, answer, left, LentRun}
 
 -- a check of one row
-one-row : (f : ℕ → Refusal) (b : Bool) (ks : List Check) → verdictOf (record { refusal = f; rows = 1; passes = λ i. b } ∷ ks) ≡ cond b (verdictOf ks) (Refused (f 0))
+pub one-row : (f : ℕ → Refusal) (b : Bool) (ks : List Check) → verdictOf (record { refusal = f; rows = 1; passes = λ i. b } ∷ ks) ≡ cond b (verdictOf ks) (Refused (f 0))
 unfolding verdictOf firstFailing least
 one-row f true ks = refl
 one-row f false ks = refl

@@ -1,9 +1,9 @@
 -- Executing the instructions of a program that the grammar makes does what Effects.antt says.
 use mathlib.Core.Path.{_≡_, refl, ap, _∙_}
 use Prim.Native.Nat.{ℕ, suc}
-use mathlib.Core.Bool.{Bool, true, false, _&&_, not, cond, Bool·beq, and-true, and-assoc, false≢true}
+use mathlib.Core.Bool.{Bool, true, false, _&&_, _||_, not, cond, Bool·beq, and-true, and-assoc, false≢true}
 use mathlib.Core.List.{List, [], _∷_, _++_, map, flatMap, headD}
-use lib.ListN.{length}
+use lib.ListN.{length, set}
 use Rattle.meaning.specs.RowsLaws.{and-l, and-r, and-both}
 use Rattle.meaning.specs.Programs.{Test, Chain, Part, also, bracket, Body, Rung, TimerRung, Program, loadOf, andOf, chainOf, partOf, bodyOf, rungOf, timerRungOf, timerRungsFrom, instructions, all, storeFits, rungFits, fits}
 use Rattle.meaning.specs.Scan.{Within, valueOf, stored, called, withFlipFlops, withBlock, withOutputs, withResult, executed, executedAll}
@@ -12,6 +12,12 @@ use Rattle.meaning.specs.declared.Operand.{Operand}
 use Rattle.meaning.specs.declared.Operand.the-variants.{Mx, Ix, Qx, TimerQ, TimerIn, TimerPt, Timer, False, True}
 use Rattle.meaning.specs.declared.Operator.{Operator}
 use Rattle.meaning.specs.declared.Operator.the-variants.{Ld, Ldn, And, Andn, Or, Close, St, S, R, Cal, LdTime}
+
+-- "IL runs left to right without precedence.": LD a, OR( LD b ), AND c, ST %QX1 stores (a or b) and c, whatever stood there before
+pub left-to-right : (d x : ℕ) (a b c : Operand) (w : Within) → (executedAll d x (Ld a ∷ Or ∷ Ld b ∷ Close ∷ And c ∷ St (Qx 1) ∷ []) w) .outputs
+    ≡ set (w .outputs) 0 ((valueOf x (w .controller) a || valueOf x (w .controller) b) && valueOf x (w .controller) c)
+unfolding executedAll executed stored withResult withOutputs headD
+left-to-right d x a b c w = refl
 
 -- a test is the value or its opposite
 asked : (a b : Bool) → cond a b (not b) ≡ Bool·beq a b

@@ -137,9 +137,19 @@ module _ (c : Tables) (a : ℕ) (good : subState c a (initial c a) ≡ true) whe
 -- ---- bits
 
 -- a bit is 0 or 1
+bit-le : (b : Bool) → cond b 1 0 ≤ 1
+bit-le true = omega arith
+bit-le false = omega arith
+
 -- the lowest bit of a number, as a test and back
 pub bit-of : (d : ℕ) → cond (eqb (d % 2) 1) 1 0 ≡ d % 2
 bit-of d = elim (ℕ-discrete (d % 2) 1) [ yes e ↦ rw e | no n ↦ rw (ne-eqb (d % 2) 1 n) (omega arith) ]
+
+-- w flip-flops hold a number of w bits
+pub codeAt-lt : (fs : List ℕ) (o w : ℕ) → codeAt fs o w < 2 ^ w
+unfolding codeAt wordOf table
+codeAt-lt fs o zero = omega arith
+codeAt-lt fs o (suc w) = omega (arith, codeAt-lt fs (suc o) w, bit-le (flipFlopOn fs o))
 
 -- two numbers with one lowest bit are equal exactly where the rests are
 same-rest : (v m n : ℕ) → eqb m n ≡ eqb (v + 2 * m) (v + 2 * n)

@@ -38,4 +38,6 @@ pub mod TimerLaws
 pub mod OutputLaws
 pub mod StandsLaws
 pub mod Simulate
+pub mod HeldLaws
 pub mod Demands
+pub mod DemandLaws

@@ -1,18 +1,18 @@
 -- The program of an accepted chart is one that the grammar makes, and it has the chart's flip-flops twice and the chart's timers.
-use mathlib.Core.Path.{_≡_, refl}
+use mathlib.Core.Path.{_≡_, refl, ap}
 use mathlib.Core.Logic.{inl, inr}
 use Prim.Native.Nat.{ℕ, zero, suc, _+_, _-_, _/_, _%_, _≤_, _<_, max}
 use native.Mathlib.Omega.{arith}
 use native.Mathlib.Decide.{ℕ-discrete, decLe}
 use mathlib.Core.Bool.{Bool, true, false, _&&_, cond}
 use mathlib.Core.List.{List, [], _∷_, _++_, map, flatMap, append-assoc}
-use lib.ListN.{length, length-replicate, getD-replicate}
+use lib.ListN.{length, getD, length-replicate, getD-replicate}
 use lib.Dec.{leb, eqb}
 use lib.IntN.{ℤ, natAbs}
 use borrow.Author.Tests.{leb-true, le-leb}
 use Rattle.meaning.specs.Rows.{table}
-use Rattle.meaning.specs.RowsLaws.{which, and-l, and-both, or-l, length-table, flatMap-append}
-use Rattle.meaning.specs.Tables.{Tables, mostDepth, mostTimers, mostPreset, literalPlaces, stateCount, moveCount, timerCount, pairCount, superState, initial, cell, source, target, mark, literal, pairNumber, pairState}
+use Rattle.meaning.specs.RowsLaws.{which, and-l, and-both, or-l, length-table, getD-table, flatMap-append}
+use Rattle.meaning.specs.Tables.{Tables, mostDepth, mostTimers, mostPreset, literalPlaces, stateCount, moveCount, timerCount, pairCount, superState, initial, cell, source, target, mark, literal, preset, pairNumber, pairState}
 use Rattle.meaning.specs.Hierarchy.{depth, leaf}
 use Rattle.meaning.specs.Layout.{groupWidth, groupFirst, flipFlops, code}
 use Rattle.meaning.specs.Literals.{between, kindOf, wanted}
@@ -180,6 +180,11 @@ module _ (c : Tables) where
   pub program-blocks : length ((program c) .timers) ≡ timerCount c
   unfolding program
   program-blocks = length-table (timerRung c) 1 (timerCount c)
+
+  -- the time of each timer rung is the timer's preset
+  pub program-time : (t : ℕ) (r : TimerRung) → t < timerCount c → (getD ((program c) .timers) t r) .time ≡ preset c (suc t)
+  unfolding program timerRung
+  program-time t r h = rw (getD-table (timerRung c) 1 (timerCount c) t r h) (ap (preset c) (omega arith))
 
   -- the copy rungs from i on name all their working copies
   copies-bytes : (i n k : ℕ) → i ≤ k → k < i + n → flipFlops c + k < flipFlopBytes (flatMap rungOf (flatMap (copyRungs c) (table (λ b. b) i n)))

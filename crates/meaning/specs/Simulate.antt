@@ -20,6 +20,7 @@ use Rattle.meaning.specs.Stands.{nextCall, StandsFor, shownLeaf}
 use Rattle.meaning.specs.Effects.{rungsDone, timerRungsDone, programDone}
 use Rattle.meaning.specs.TestLaws.{any, Coded, Tells, codes-coded}
 use Rattle.meaning.specs.StoreLaws.{Bits}
+use Rattle.meaning.specs.ProgramLaws.{program-bytes, program-blocks}
 use Rattle.meaning.specs.StandsLaws.{shown-follows}
 use Rattle.meaning.specs.MoveLaws.{Amid, Copied, rungs-append, after-leads, all-moves-done, moves-known, moves-there, copies-done, copied-codes}
 use Rattle.meaning.specs.TimerLaws.{Called, timers-done, call-tells, call-again}
@@ -27,12 +28,18 @@ use Rattle.meaning.specs.OutputLaws.{Lit, outputs-done, lit-word}
 use Rattle.meaning.specs.declared.Block.{Block}
 use Rattle.meaning.specs.MachineLaws.{timer-table}
 
+-- a controller in which the chart's program runs: bits, both halves of the flip-flops, a block for each timer. Blocks to spare do no harm.
+pub record Holds (c : Tables) (k : Controller) : Type 0 where
+  pub bits : Bits (k .flipFlops)
+  pub size : length (k .flipFlops) ≡ flipFlops c + flipFlops c
+  pub blocks : timerCount c ≤ length (k .blocks)
+
 -- what a scan leaves in w, from the controller k that stands for s
 pub record Simulated (c : Tables) (x : ℕ) (k : Controller) (s : State) (w : Within) : Type 0 where
   pub stands : StandsFor c (w .controller) (step c x s)
   pub word : wordOf (w .outputs) ≡ (seen c (step c x s)) .outputs
   pub leaf : shownLeaf c (w .controller .flipFlops) ≡ (seen c (step c x s)) .leaf
-  pub bits : (b : ℕ) → b < length (w .controller .flipFlops) → getD (w .controller .flipFlops) b 0 ≤ 1
+  pub bits : Bits (w .controller .flipFlops)
   pub size : length (w .controller .flipFlops) ≡ length (k .flipFlops)
   pub blocks : length (w .controller .blocks) ≡ length (k .blocks)
   pub times : (t : ℕ) → t < timerCount c → (getD (w .controller .blocks) t blank) .et ≤ preset c (suc t)
@@ -45,11 +52,11 @@ block-at bs t = ap (λ i. getD bs i blank) (omega arith)
 module _ (c : Tables) (R : Rules c) where
   -- the moves' rungs may stand in any order `is` in which none is missing
   pub simulates-in-order : (is : List ℕ) → all (λ i. ltb i (moveCount c)) is ≡ true → ((i : ℕ) → i < moveCount c → any (eqb i) is ≡ true)
-      → (k : Controller) (s : State) (x : ℕ) → Valid c s → Bits (k .flipFlops) → StandsFor c k s → length (k .flipFlops) ≡ flipFlops c + flipFlops c → length (k .blocks) ≡ timerCount c
+      → (k : Controller) (s : State) (x : ℕ) → Valid c s → Holds c k → StandsFor c k s
       → Simulated c x k s (rungsDone x (flatMap (moveRungs c) is ++ (flatMap (copyRungs c) (table (λ b. b) 0 (flipFlops c)) ++ flatMap (outputRungs c) (table (λ o. o) 1 (c .outputs))))
       (timerRungsDone (c .step) x 1 (table (timerRung c) 1 (timerCount c)) (begun k)))
   unfolding begun step seen seenAt activeLeaf
-  simulates-in-order is known there k s x ok bits S few many = rw (rungs-append, rungs-append) (record {
+  simulates-in-order is known there k s x ok H S = rw (rungs-append, rungs-append) (record {
     stands = record {
       flips = rw same (λ a h n. codes .0 a n);
       copies = rw same (λ a h n. codes .1 a n);
@@ -57,8 +64,8 @@ module _ (c : Tables) (R : Rules c) where
     };
     word = lit-word c R (follow c (remembered m) 0) w3 w4 L;
     leaf = rw same (shown-follows c R (w3 .controller .flipFlops) (remembered m) (after-leads c R x s ok) (codes .0));
-    bits = rw same (λ b h. D .bits b);
-    size = rw same (D .size ∙ M .size ∙ sym few);
+    bits = rw same (D .bits);
+    size = rw same (D .size ∙ M .size ∙ sym (H .size));
     blocks = rw (same, D .blocks, M .blocks) (T .size);
     times = rw (same, D .blocks, M .blocks) short;
   })
@@ -70,7 +77,7 @@ module _ (c : Tables) (R : Rules c) where
       w1 = timerRungsDone (c .step) x 1 (table (timerRung c) 1 (timerCount c)) (begun k)
 
       T : Called c s (begun k) (1 + timerCount c) w1
-      T = timers-done c R s ok x (begun k) (codes-coded c R (k .flipFlops) 0 (s .memory) (S .flips)) many
+      T = timers-done c R s ok x (begun k) (codes-coded c R (k .flipFlops) 0 (s .memory) (S .flips)) (H .blocks)
 
       tells : Tells c (w1 .controller .blocks) s
       tells t l u = ap (λ b. b .q) (T .done t l (omega arith)) ∙ call-tells c s t (blockAt (k .blocks) t) (S .blocks t l u)
@@ -79,8 +86,8 @@ module _ (c : Tables) (R : Rules c) where
       A = record {
         flips = rw (T .flips) (codes-coded c R (k .flipFlops) 0 (s .memory) (S .flips));
         copies = rw (T .flips) (codes-coded c R (k .flipFlops) (flipFlops c) (s .memory) (S .copies));
-        bits = rw (T .flips) bits;
-        size = rw (T .flips) few;
+        bits = rw (T .flips) (H .bits);
+        size = rw (T .flips) (H .size);
         blocks = refl;
         outputs = refl;
       }
@@ -118,20 +125,27 @@ module _ (c : Tables) (R : Rules c) where
       short t h = omega (arith, ap (λ b. b .et) (block-at (w1 .controller .blocks) t ∙ T .done (suc t) (omega arith) (omega arith)), S .blocks (suc t) (omega arith) h)
 
   -- one scan of the program does one step of the machine
-  pub simulates : (k : Controller) (s : State) (x : ℕ) → Valid c s → ValidController (program c) k → StandsFor c k s
-      → length (k .flipFlops) ≡ flipFlops c + flipFlops c → length (k .blocks) ≡ timerCount c
-      → Simulated c x k s (programDone (c .step) x (program c) (begun k))
+  pub simulates : (k : Controller) (s : State) (x : ℕ) → Valid c s → Holds c k → StandsFor c k s → Simulated c x k s (programDone (c .step) x (program c) (begun k))
   unfolding programDone program
-  simulates k s x ok K S few many = simulates-in-order (table (λ i. i) 0 (moveCount c)) (moves-known (moveCount c)) (moves-there (moveCount c)) k s x ok bits S few many
-    where
-      bits : Bits (k .flipFlops)
-      bits b = elim (decLe (suc b) (length (k .flipFlops))) [ yes h ↦ K .bits b h | no h ↦ rw (List·getD-eq-default (k .flipFlops) 0 {n = b} (omega arith)) (omega arith) ]
+  simulates k s x ok H S = simulates-in-order (table (λ i. i) 0 (moveCount c)) (moves-known (moveCount c)) (moves-there (moveCount c)) k s x ok H S
+
+  -- a valid controller of the chart's program is one in which it runs
+  pub valid-holds : (k : Controller) → ValidController (program c) k → Holds c k
+  valid-holds k K = record {
+    bits = λ b. elim (decLe (suc b) (length (k .flipFlops))) [ yes h ↦ K .bits b h | no h ↦ rw (List·getD-eq-default (k .flipFlops) 0 {n = b} (omega arith)) (omega arith) ];
+    size = K .size ∙ program-bytes c R;
+    blocks = omega (arith, K .blocks, program-blocks c);
+  }
+
+  -- and so is what a scan leaves
+  pub holds-again : (k : Controller) (s : State) (x : ℕ) (w : Within) → Simulated c x k s w → Holds c k → Holds c (w .controller)
+  holds-again k s x w Q H = record { bits = Q .bits; size = Q .size ∙ H .size; blocks = omega (arith, Q .blocks, H .blocks) }
 
   -- a scan leaves a valid controller of the chart's program
   pub valid-again : (k : Controller) (s : State) (x : ℕ) (w : Within) → Simulated c x k s w → ValidController (program c) k → ValidController (program c) (w .controller)
   unfolding program timerRung
   valid-again k s x w Q K = record {
-    bits = Q .bits;
+    bits = λ b h. Q .bits b;
     size = Q .size ∙ K .size;
     blocks = Q .blocks ∙ K .blocks;
     times = λ t r h.

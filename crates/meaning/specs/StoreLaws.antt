@@ -47,7 +47,7 @@ set-bits fs o v h B i = elim (ℕ-discrete i o) [
   | no n ↦ rw (getD-set-other fs o i v 0 n) (B i)
 ]
 
-written-bits : (fs : List ℕ) (o n d : ℕ) → Bits fs → Bits (bitsWritten fs o n d)
+pub written-bits : (fs : List ℕ) (o n d : ℕ) → Bits fs → Bits (bitsWritten fs o n d)
 unfolding bitsWritten
 written-bits fs o zero d B = B
 written-bits fs o (suc n) d B = written-bits (set fs o (d % 2)) (suc o) n (d / 2) (set-bits fs o (d % 2) (omega arith) B)

@@ -91,8 +91,8 @@ module _ (c : Tables) (R : Rules c) (s : State) (ok : Valid c s) (x : ℕ) (w : 
       let e : j + suc n ≡ suc j + n = omega arith in
       rw e (called-more n (suc j) (timerRungDone (c .step) x j (timerRung c j) w') (omega arith) (omega arith) (called-one j w' g (omega arith) D))
 
-  -- after part 1 every block has been called once
-  pub timers-done : length (w .controller .blocks) ≡ timerCount c → Called c s w (1 + timerCount c) (timerRungsDone (c .step) x 1 (table (timerRung c) 1 (timerCount c)) w)
+  -- after part 1 every timer's block has been called once; there may be more blocks than timers
+  pub timers-done : timerCount c ≤ length (w .controller .blocks) → Called c s w (1 + timerCount c) (timerRungsDone (c .step) x 1 (table (timerRung c) 1 (timerCount c)) w)
   timers-done e = called-more (timerCount c) 1 w (omega arith) (omega arith)
       (record { flips = refl; outputs = refl; size = refl; done = λ t l u. absurd (omega arith); rest = λ t l. refl })
 

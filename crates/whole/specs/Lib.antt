@@ -1,0 +1,3 @@
+pub mod WrittenRan
+pub mod Going
+pub mod WholeLaws

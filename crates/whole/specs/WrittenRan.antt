@@ -1,0 +1,80 @@
+-- What the call that writes a chart's text, reads it back and runs what it read answers and leaves, for any tables.
+use mathlib.Core.Path.{_≡_, sym, _∙_}
+use mathlib.Core.List.{List, [], _∷_, _++_, map}
+use Prim.Native.Nat.{ℕ, min}
+use lib.ListN.{length, take}
+use lib.Dec.{leb}
+use Rattle.meaning.specs.Tables.{Tables}
+use Rattle.meaning.specs.Check.{Check, verdictOf, checks}
+use Rattle.meaning.specs.Calls.{scansCheck, overlaid}
+use Rattle.meaning.specs.Machine.{Seen}
+use Rattle.meaning.specs.History.{reading}
+use Rattle.meaning.specs.Written.{program}
+use Rattle.meaning.specs.declared.Refusal.the-variants as R
+use Rattle.meaning.specs.declared.Verdict.{Verdict}
+use Rattle.meaning.specs.declared.Verdict.the-variants.{Accepted, Refused}
+use Rattle.format.specs.Words.{words}
+use Rattle.format.specs.Places.{room}
+use Rattle.format.specs.Printed.{chartText}
+use Rattle.format.specs.Bytes.{Translates}
+use Rattle.lent.specs.Slice.{left}
+use Rattle.whole.specs.declared.Outcome.{Outcome}
+use Rattle.whole.specs.declared.Outcome.the-variants as O
+
+-- the words of a chart's program
+abbrev pub chartWords : Tables → List ℕ
+chartWords c = words (program c)
+
+-- 12 ROOM: "result slice too short", with the text's length. A text never has more words than bytes, so that its length is room enough for both, and the shorter slice decides.
+unfoldable pub roomCheck : Tables → ℕ → Check
+roomCheck c n = record { refusal = λ p. R.Room (room (length (chartText c))); rows = 1; passes = λ i. leb (length (chartText c)) n }
+
+-- "then 14, 15, 12": the checks after those of the tables, for the input words xs, the slices l of the text, ws of the words, ls of the leaves and os of the outputs
+abbrev pub laterChecks : Tables → List ℕ → List ℕ → List ℕ → List ℕ → List ℕ → List Check
+laterChecks c xs l ws ls os = scansCheck (length xs) (length ls) ∷ scansCheck (length xs) (length os) ∷ roomCheck c (min (length l) (length ws)) ∷ []
+
+abbrev pub runVerdict : Tables → List ℕ → List ℕ → List ℕ → List ℕ → List ℕ → Verdict
+runVerdict c xs l ws ls os = verdictOf (checks c ++ laterChecks c xs l ws ls os)
+
+-- the lengths of the text and of its words, or the refusal
+unfoldable pub outcome : Tables → Verdict → Outcome
+outcome c Accepted = O.Ran (length (chartText c)) (length (chartWords c))
+outcome c (Refused r) = O.Refused r
+
+-- by a verdict: what is answered, and what is left in the slices
+pub record RanBy (v : Verdict) (c : Tables) (xs l ws ls os : List ℕ) (r : Outcome) (l′ ws′ ls′ os′ : List ℕ) : Type 0 where
+  pub answers : r ≡ outcome c v
+  pub written : l′ ≡ left v (overlaid (chartText c) l) l
+  pub read : ws′ ≡ left v (overlaid (chartWords c) ws) ws
+  -- leaf and outputs after each scan are what the inputs and the list of earlier leaves call for
+  pub leaves : ls′ ≡ left v (map (λ (e : Seen). e .leaf) (reading c xs)) ls
+  pub outputs : os′ ≡ left v (map (λ (e : Seen). e .outputs) (reading c xs)) os
+  -- demands 2 and 3 hold of the bytes
+  pub translates : v ≡ Accepted → Translates c (take (length (chartText c)) l′)
+
+abbrev pub WrittenRan : Tables → List ℕ → List ℕ → List ℕ → List ℕ → List ℕ → Outcome → List ℕ → List ℕ → List ℕ → List ℕ → Type 0
+WrittenRan c xs l ws ls os = RanBy (runVerdict c xs l ws ls os) c xs l ws ls os
+
+-- no second answer
+pub one-written-run : (c : Tables) (xs l ws ls os : List ℕ) (r s : Outcome) (l′ ws′ ls′ os′ l″ ws″ ls″ os″ : List ℕ)
+    → WrittenRan c xs l ws ls os r l′ ws′ ls′ os′ → WrittenRan c xs l ws ls os s l″ ws″ ls″ os″ → (r ≡ s) × (l′ ≡ l″) × (ws′ ≡ ws″) × (ls′ ≡ ls″) × (os′ ≡ os″)
+one-written-run c xs l ws ls os r s l′ ws′ ls′ os′ l″ ws″ ls″ os″ p q =
+    (p .answers ∙ sym (q .answers), p .written ∙ sym (q .written), p .read ∙ sym (q .read), p .leaves ∙ sym (q .leaves), p .outputs ∙ sym (q .outputs))
+
+-- ---- the parts
+
+-- the leaves and outputs of scans on xs from cleared memory
+pub record AsRead (c : Tables) (xs ls os : List ℕ) : Type 0 where
+  pub leaves : ls ≡ map (λ (e : Seen). e .leaf) (reading c xs)
+  pub outputs : os ≡ map (λ (e : Seen). e .outputs) (reading c xs)
+
+-- the words of a written text, over ws, and their run
+pub record ReadAndRun (c : Tables) (xs ws : List ℕ) (r : Outcome) (ws′ ls′ os′ : List ℕ) : Type 0 where
+  pub answers : r ≡ O.Ran (length (chartText c)) (length (chartWords c))
+  pub read : ws′ ≡ overlaid (chartWords c) ws
+  pub seen : AsRead c xs ls′ os′
+
+-- SCANS, where the tables are not refused
+abbrev pub noScans : Verdict → Outcome
+noScans Accepted = O.Refused R.Scans
+noScans (Refused r) = O.Refused r
