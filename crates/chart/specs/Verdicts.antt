@@ -29,6 +29,9 @@ sizeCheck c = record { refusal = λ p. R.Size; rows = 1; passes = λ i. sizePass
 abbrev pub idleCheck : Tables → Check
 idleCheck c = record { refusal = R.IdleTimer; rows = moveCount c; passes = idlePasses c }
 
+abbrev pub overlapCheck : Tables → Check
+overlapCheck c = record { refusal = R.Overlap; rows = moveCount c; passes = overlapPasses c }
+
 abbrev pub flipFlopCheck : Tables → Check
 flipFlopCheck c = record { refusal = λ p. R.FlipFlops; rows = 1; passes = λ i. flipFlopPasses c }
 
@@ -40,14 +43,13 @@ checkOf c L.TimerPair = record { refusal = R.TimerPair; rows = pairCount (c .tim
 checkOf c L.OutputPair = record { refusal = R.OutputPair; rows = pairCount (c .outputPairs); passes = pairPasses c (c .outputs) (c .outputPairs) }
 checkOf c L.Move = record { refusal = R.Move; rows = moveCount c; passes = movePasses c }
 checkOf c L.Literal = record { refusal = R.Literal; rows = moveCount c; passes = literalPasses c }
-checkOf c L.Overlap = record { refusal = R.Overlap; rows = moveCount c; passes = overlapPasses c }
 
 -- the checks before the moves, and those of the moves
 abbrev pub tableChecks : Tables → List Check
 tableChecks c = checkOf c L.Hierarchy ∷ checkOf c L.Initial ∷ checkOf c L.Preset ∷ checkOf c L.TimerPair ∷ checkOf c L.OutputPair ∷ []
 
 abbrev pub moveChecks : Tables → List Check
-moveChecks c = checkOf c L.Move ∷ checkOf c L.Literal ∷ idleCheck c ∷ checkOf c L.Overlap ∷ []
+moveChecks c = checkOf c L.Move ∷ checkOf c L.Literal ∷ idleCheck c ∷ overlapCheck c ∷ []
 
 -- "Refusals, in the order of checking"
 pub in-order : (c : Tables) → checks c ≡ ((sizeCheck c ∷ []) ++ (tableChecks c ++ (moveChecks c ++ (flipFlopCheck c ∷ []))))

@@ -13,6 +13,7 @@ ghost use Rattle.meaning.specs.Hierarchy.{atOrAbove};
 ghost use Rattle.meaning.specs.Check.{sizePasses, hierarchyPasses, initialPasses, presetPasses, pairAfter, pairPasses, below, movePasses, withinCounts, mayPrecede, placePasses, literalPasses, opposed, clash, overlaps, overlapPasses};
 ghost use Rattle.tables.specs.Given.{tablesOf};
 ghost use Rattle.rules.specs.Parts.{rowsWhole, countsFit, frameFits, markPasses, opposedIn};
+ghost use Rattle.rules.specs.Falling.{Falling};
 
 // ---- 1 SIZE
 
@@ -329,19 +330,36 @@ fn clash(moves: &[i16], i: usize, j: usize) -> bool
     false
 }
 
+// Whether a is at or above s. After the check of the hierarchy a super-state has the smaller number, so that the walk ends
+// once it is past a.
+fn over(states: &[u16], a: usize, s: usize) -> bool
+    ensures { λ r. ⌜ ((c : Tables) → c .states ≡ now (states .entry) → Falling c → r ≡ atOrAbove c a s) ⌝ }
+{
+    let mut t = s;
+    let mut k = 0;
+    while k <= Chart::DEPTH {
+        if t <= a {
+            return t == a;
+        }
+        t = tables::super_state(states, t);
+        k += 1;
+    }
+    false
+}
+
 // "one source is at or above the other"
 fn near(states: &[u16], a: usize, b: usize) -> bool
-    ensures { λ r. ⌜ ((c : Tables) → c .states ≡ now (states .entry) → r ≡ (atOrAbove c a b || atOrAbove c b a)) ⌝ }
+    ensures { λ r. ⌜ ((c : Tables) → c .states ≡ now (states .entry) → Falling c → r ≡ (atOrAbove c a b || atOrAbove c b a)) ⌝ }
 {
-    if tables::at_or_above(states, a, b) {
-        return true;
+    if a <= b {
+        return over(states, a, b);
     }
-    tables::at_or_above(states, b, a)
+    over(states, b, a)
 }
 
 // The sources come first: they tell most pairs of moves apart, and cost less than the 64 pairs of literals.
 fn overlaps(states: &[u16], moves: &[i16], i: usize, j: usize) -> bool
-    ensures { λ r. ⌜ ((c : Tables) → c .states ≡ now (states .entry) → c .moves ≡ now (moves .entry) → r ≡ overlaps c i j) ⌝ }
+    ensures { λ r. ⌜ ((c : Tables) → c .states ≡ now (states .entry) → c .moves ≡ now (moves .entry) → Falling c → r ≡ overlaps c i j) ⌝ }
 {
     if near(states, tables::source(moves, i), tables::source(moves, j)) {
         return !clash(moves, i, j);
@@ -351,7 +369,7 @@ fn overlaps(states: &[u16], moves: &[i16], i: usize, j: usize) -> bool
 
 // "an earlier move overlaps it"
 pub fn overlap_passes(states: &[u16], moves: &[i16], i: usize) -> bool
-    ensures { λ r. ⌜ ((c : Tables) → c .states ≡ now (states .entry) → c .moves ≡ now (moves .entry) → r ≡ overlapPasses c i) ⌝ }
+    ensures { λ r. ⌜ ((c : Tables) → c .states ≡ now (states .entry) → c .moves ≡ now (moves .entry) → Falling c → r ≡ overlapPasses c i) ⌝ }
 {
     let mut j = 0;
     while j < i {

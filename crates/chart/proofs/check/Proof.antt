@@ -1,15 +1,19 @@
 use Rattle.chart.specs.Verdicts.{checkOf, tableChecks, moveChecks, flipFlopCheck, isRefused, passed, halts, goes, first-goes, rest-goes, size-stops, size-goes}
-use Rattle.chart.specs.Idle.{Sound}
+use Rattle.idle.specs.Leaves.{Sound}
+use Rattle.rules.specs.Falling.{falling}
+use Rattle.meaning.specs.Rules.{HierarchyRule}
+use Rattle.meaning.specs.RuleLaws.{hierarchy-tells}
 use Rattle.chart.specs.declared.Rule.the-variants as L
 use Rattle.tables.specs.Given.{tablesOf}
 use Rattle.meaning.specs.Check.{sizePasses, verdictOf}
 use Rattle.meaning.specs.Tables.{Tables, stateCount}
 use Rattle.meaning.specs.RowsLaws.{and-l, and-r}
-use borrow.Author.Tests.{not-true, not-false, leb-true}
+use borrow.Author.Tests.{not-true, not-false, leb-true, eqb-true}
 use mathlib.Core.List.{[], _∷_, _++_}
 use mathlib.Core.Bool.{true, false}
 use mathlib.Core.Path.{_≡_, refl, sym, ap, _∙_}
-use Prim.Native.Nat.{_≤_}
+use Prim.Native.Nat.{ℕ, _≤_, _<_, _%_}
+use lib.ListN.{length}
 use borrow.Author.Needs.{needs}
 use Rattle.chart.proofs.check.Statement.{statement}
 use Rattle.chart.proofs.check.Tie as tie
@@ -18,10 +22,19 @@ few : (c : Tables) → sizePasses c ≡ true → stateCount c ≤ 256
 unfolding sizePasses
 few c e = leb-true (stateCount c) 256 (search (and-l, and-r) depth 14)
 
+even : (c : Tables) → sizePasses c ≡ true → length (c .states) % 2 ≡ 0
+unfolding sizePasses
+even c e = eqb-true (length (c .states) % 2) 0 (search (and-l, and-r) depth 14)
+
+hierarchy : (c : Tables) → isRefused (verdictOf (tableChecks c)) ≡ false → (s : ℕ) → s < stateCount c → HierarchyRule c s
+hierarchy c f = (λ s h. hierarchy-tells c s .0 (passed (checkOf c L.Hierarchy) (first-goes (checkOf c L.Hierarchy) (checkOf c L.Initial ∷ checkOf c L.Preset ∷ checkOf c L.TimerPair ∷ checkOf c L.OutputPair ∷ []) f) s h))
+
 sound : (c : Tables) → sizePasses c ≡ true → isRefused (verdictOf (tableChecks c)) ≡ false → Sound c
 sound c e f = record {
   initials = passed (checkOf c L.Initial) (first-goes (checkOf c L.Initial) (checkOf c L.Preset ∷ checkOf c L.TimerPair ∷ checkOf c L.OutputPair ∷ [])
       (rest-goes (checkOf c L.Hierarchy) (checkOf c L.Initial ∷ checkOf c L.Preset ∷ checkOf c L.TimerPair ∷ checkOf c L.OutputPair ∷ []) f));
+  hierarchy = hierarchy c f;
+  falling = falling c (even c e) (hierarchy c f);
   few = few c e;
 }
 

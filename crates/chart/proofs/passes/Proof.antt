@@ -51,12 +51,6 @@ enum-told-7 c = search needs
 literal-passes-requires : tie.Need-literal-passes-requires
 literal-passes-requires c κs = search needs
 
-enum-told-8 : tie.Need-enum-told-8
-enum-told-8 c = search needs
-
-overlap-passes-requires : tie.Need-overlap-passes-requires
-overlap-passes-requires c κs = search needs
-
 returns : tie.Need-returns
 returns c =
     let a = c .before .before .before .before .before .before .before .args in
@@ -101,12 +95,6 @@ returns-7 c =
     let t = tablesOf (a .chart) (a .states .now) (a .moves .now) (a .presets .now) (a .timer-pairs .now) (a .output-pairs .now) in
     rw (c .before .enum-told7 .given .1) (c .literal-passes .ensures t refl refl refl)
 
-returns-8 : tie.Need-returns-8
-returns-8 c =
-    let a = c .before .before .before .before .before .before .before .args in
-    let t = tablesOf (a .chart) (a .states .now) (a .moves .now) (a .presets .now) (a .timer-pairs .now) (a .output-pairs .now) in
-    rw (c .before .enum-told8 .given .1) (c .overlap-passes .ensures t refl refl)
-
 pub passes-spec : {M : Type 1} → statement M
 passes-spec =
     tie.close
@@ -126,13 +114,10 @@ passes-spec =
     move-passes-requires
     enum-told-7
     literal-passes-requires
-    enum-told-8
-    overlap-passes-requires
     returns
     returns-2
     returns-3
     returns-4
     returns-5
     returns-6
-    returns-7
-    returns-8)
+    returns-7)

@@ -1,18 +1,21 @@
+use native.Mathlib.Omega.{arith}
+use mathlib.Core.Path.{_∙_}
+use Rattle.rules.specs.Falling.{near-low, near-high}
 use borrow.Author.Needs.{needs}
 use Rattle.rules.proofs.near.Statement.{statement}
 use Rattle.rules.proofs.near.Tie as tie
 
-at-or-above-requires : tie.Need-at-or-above-requires
-at-or-above-requires c κs = search needs
+over-requires : tie.Need-over-requires
+over-requires c κs = search needs
+
+over-requires-2 : tie.Need-over-requires-2
+over-requires-2 c κs = search needs
 
 returns : tie.Need-returns
-returns c c' e = rw (← c .before .at-or-above .ensures c' e, c .if1 .taken)
-
-at-or-above-requires-2 : tie.Need-at-or-above-requires-2
-at-or-above-requires-2 c κs = search needs
+returns c c' e f = let a = c .before .before .before .args in c .over .ensures c' e f ∙ near-low c' (a .a) (a .b) f (c .before .if1 .taken)
 
 returns-2 : tie.Need-returns-2
-returns-2 c c' e = rw (← c .before .before .at-or-above .ensures c' e, c .before .if1 .left) (c .at-or-above2 .ensures c' e)
+returns-2 c c' e f = let a = c .before .before .before .args in c .over2 .ensures c' e f ∙ near-high c' (a .a) (a .b) f (omega (arith, c .before .if1 .left))
 
 pub near-spec : {M : Type 1} → statement M
-near-spec = tie.close (tie.spec at-or-above-requires returns at-or-above-requires-2 returns-2)
+near-spec = tie.close (tie.spec over-requires returns over-requires-2 returns-2)

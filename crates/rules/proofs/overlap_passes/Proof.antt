@@ -1,3 +1,4 @@
+use Rattle.rules.specs.Falling.{Falling}
 use Rattle.meaning.specs.Check.{overlaps, overlapPasses}
 use Rattle.meaning.specs.Tables.{Tables}
 use Rattle.meaning.specs.RowsLaws.{some-intro, some-none}
@@ -11,22 +12,22 @@ use Rattle.rules.proofs.overlap_passes.Tie as tie
 
 abbrev Inv-loop : tie.InvT-loop
 Inv-loop states moves i j₀ j =
-    (j ≤ i) × ((c : Tables) → c .states ≡ states → c .moves ≡ moves → (m : ℕ) → m < j → overlaps c i m ≡ false)
+    (j ≤ i) × ((c : Tables) → c .states ≡ states → c .moves ≡ moves → Falling c → (m : ℕ) → m < j → overlaps c i m ≡ false)
 
 abbrev μ-loop : tie.MeasureT-loop
 μ-loop states moves i j₀ j = i - j
 
 loop-holds : tie.Need-loop-holds Inv-loop μ-loop
-loop-holds c = (omega arith, λ c' e f. below-none (λ m. overlaps c' (c .before .args .i) m ≡ false))
+loop-holds c = (omega arith, λ c' e f o. below-none (λ m. overlaps c' (c .before .args .i) m ≡ false))
 
 overlaps-requires : tie.Need-overlaps-requires Inv-loop μ-loop
 overlaps-requires c κs = tt
 
 returns : tie.Need-returns Inv-loop μ-loop
 unfolding overlapPasses
-returns c c' e f =
+returns c c' e f o =
     let a = c .before .before .before .before .before .args in
-    sym (ap not (some-intro (overlaps c' (a .i)) 0 (a .i) (c .before .before .before .loop .j) (omega arith) (omega arith) (sym (c .before .overlaps .ensures c' e f) ∙ c .if1 .taken)))
+    sym (ap not (some-intro (overlaps c' (a .i)) 0 (a .i) (c .before .before .before .loop .j) (omega arith) (omega arith) (sym (c .before .overlaps .ensures c' e f o) ∙ c .if1 .taken)))
 
 add-j : tie.Need-add-j Inv-loop μ-loop
 add-j c = omega arith
@@ -38,13 +39,13 @@ loop-again : tie.Need-loop-again Inv-loop μ-loop
 loop-again c =
     let a = c .before .before .before .before .before .args in
     let b = c .before .before .before .loop in
-    (omega arith, λ c' e f. below-more (λ m. overlaps c' (a .i) m ≡ false) (b .j) (b .inv .1 c' e f) (sym (c .before .overlaps .ensures c' e f) ∙ c .if1 .left))
+    (omega arith, λ c' e f o. below-more (λ m. overlaps c' (a .i) m ≡ false) (b .j) (b .inv .1 c' e f o) (sym (c .before .overlaps .ensures c' e f o) ∙ c .if1 .left))
 
 returns-2 : tie.Need-returns-2 Inv-loop μ-loop
 unfolding overlapPasses
-returns-2 c c' e f =
+returns-2 c c' e f o =
     let a = c .before .before .before .args in
-    sym (ap not (some-none (overlaps c' (a .i)) 0 (a .i) (λ m p q. c .before .loop .inv .1 c' e f m (omega arith))))
+    sym (ap not (some-none (overlaps c' (a .i)) 0 (a .i) (λ m p q. c .before .loop .inv .1 c' e f o m (omega arith))))
 
 pub overlap-passes-spec : {M : Type 1} → statement M
 overlap-passes-spec =

@@ -17,11 +17,11 @@ clash-requires c κs = search needs
 
 returns : tie.Need-returns
 unfolding overlaps
-returns c c' e f = rw (← c .before .before .before .before .source .ensures c' f, ← c .before .before .before .source2 .ensures c' f, ← c .before .before .near .ensures c' e, c .before .if1 .taken, ← c .clash .ensures c' f)
+returns c c' e f o = rw (← c .before .before .before .before .source .ensures c' f, ← c .before .before .before .source2 .ensures c' f, ← c .before .before .near .ensures c' e o, c .before .if1 .taken, ← c .clash .ensures c' f)
 
 returns-2 : tie.Need-returns-2
 unfolding overlaps
-returns-2 c c' e f = rw (← c .before .before .before .source .ensures c' f, ← c .before .before .source2 .ensures c' f, ← c .before .near .ensures c' e, c .if1 .left)
+returns-2 c c' e f o = rw (← c .before .before .before .source .ensures c' f, ← c .before .before .source2 .ensures c' f, ← c .before .near .ensures c' e o, c .if1 .left)
 
 pub overlaps-spec : {M : Type 1} → statement M
 overlaps-spec =

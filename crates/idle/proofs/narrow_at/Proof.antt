@@ -1,0 +1,50 @@
+use native.Mathlib.Omega.{arith}
+use mathlib.Core.Path.{sym}
+use lib.ListN.{getD}
+use lib.Seq.{set-out}
+use lib.Bits.{bitAnd}
+use borrow.Author.Needs.{needs}
+use Rattle.idle.proofs.narrow_at.Statement.{statement}
+use Rattle.idle.proofs.narrow_at.Tie as tie
+use Rattle.idle.proofs.narrow_at.Reads as reads
+use Rattle.idle.proofs.narrow_at.Lts as lts
+
+-- src/lib.rt:27:20
+mul-words : tie.Need-mul-words
+mul-words c = search needs
+
+-- src/lib.rt:27:20
+slice-read-words : tie.Need-slice-read-words
+slice-read-words c = search needs
+
+-- src/lib.rt:27:9
+mul-words-2 : tie.Need-mul-words-2
+mul-words-2 c = search needs
+
+-- src/lib.rt:27:9
+slice-write-words : tie.Need-slice-write-words
+slice-write-words c = search needs
+
+-- src/lib.rt:23:1
+same-length : tie.Need-same-length
+same-length c = search needs
+
+-- src/lib.rt:23:1
+returns : tie.Need-returns
+returns c = search needs
+
+-- src/lib.rt:23:1
+returns-2 : tie.Need-returns-2
+returns-2 c = sym (set-out (c .before .args .words .now) (c .before .args .x) (bitAnd (getD (c .before .args .words .now) (c .before .args .x) 0) (c .before .args .w)) (omega arith))
+
+pub narrow-at-spec : {M : Type 1} → statement M
+narrow-at-spec =
+    tie.close
+    (tie.spec
+    mul-words
+    slice-read-words
+    mul-words-2
+    slice-write-words
+    same-length
+    returns
+    returns-2)

@@ -1,0 +1,36 @@
+-- Words of numbers, one a state: what is paired with the state itself, and what with a state at or above it.
+use mathlib.Core.Path.{_≡_}
+use Prim.Native.Nat.{ℕ, _<_, _≤_}
+use mathlib.Core.Bool.{Bool, _&&_}
+use mathlib.Core.List.{List}
+use lib.ListN.{length, getD}
+use lib.Dec.{eqb}
+use Rattle.meaning.specs.Rows.{some}
+use Rattle.meaning.specs.Tables.{Tables, mostStates, stateCount, pairCount, pairNumber, pairState}
+use Rattle.meaning.specs.Hierarchy.{paired}
+use Rattle.meaning.specs.Literals.{inputOn}
+use Rattle.meaning.specs.Rules.{HierarchyRule}
+
+-- what is asked of the states: there are few, and their super-states lead to the root
+pub record Tree (c : Tables) : Type 0 where
+  pub few : stateCount c ≤ mostStates
+  pub hierarchy : (s : ℕ) → s < stateCount c → HierarchyRule c s
+
+-- row i pairs n with l
+abbrev pub rowAt : List ℕ → ℕ → ℕ → ℕ → Bool
+rowAt ps n l i = eqb (pairNumber ps i) n && eqb (pairState ps i) l
+
+-- some row does
+abbrev pub own : List ℕ → ℕ → ℕ → Bool
+own ps n l = some (rowAt ps n l) 0 (pairCount ps)
+
+abbrev pub Own : List ℕ → List ℕ → Type 0
+Own ps ws = (length ws ≡ mostStates) × ((n l : ℕ) → 1 ≤ n → n ≤ 64 → l < mostStates → inputOn (getD ws l 0) n ≡ own ps n l)
+
+abbrev pub PairedWords : Tables → List ℕ → List ℕ → Type 0
+PairedWords c ps ws = (n l : ℕ) → 1 ≤ n → n ≤ 64 → l < stateCount c → inputOn (getD ws l 0) n ≡ paired c ps n l
+
+-- the states below s are done, and the others have their own numbers only
+abbrev pub Upto : Tables → List ℕ → List ℕ → ℕ → Type 0
+Upto c ps ws s = ((n l : ℕ) → 1 ≤ n → n ≤ 64 → l < s → l < stateCount c → inputOn (getD ws l 0) n ≡ paired c ps n l)
+    × ((n l : ℕ) → 1 ≤ n → n ≤ 64 → s ≤ l → l < mostStates → inputOn (getD ws l 0) n ≡ own ps n l)
