@@ -31,7 +31,7 @@ use Rattle.lent.specs.declared.Ran.{Ran}
 use Rattle.lent.specs.declared.Ran.the-variants as A
 use Rattle.lent.specs.Slice.{laterVerdict, answer, left}
 use Rattle.lent.specs.RunLaws.{later}
-use Rattle.runs.specs.Runs.{runVerdict, ChartRan}
+use Rattle.runs.specs.Runs.{runVerdict, ChartRan, front-accepted, run-by}
 use Rattle.runs.specs.Steps.{chartStepChecks, stepVerdict, shown, ChartStepped}
 use Rattle.runs.specs.StepLaws.{done-accepted, shown-accepted, same-verdict}
 use Rattle.runs.specs.declared.Stepped.{Stepped}
@@ -39,15 +39,6 @@ use Rattle.runs.specs.declared.Stepped.the-variants as S
 
 not-accepted : (r : Refusal) → Refused r ≡ Accepted → ⊥
 not-accepted r e = let z : false ≡ true = cc in false≢true z
-
--- where all checks pass, those at the front do
-front-accepted : (ks js : List Check) → verdictOf (ks ++ js) ≡ Accepted → verdictOf ks ≡ Accepted
-unfolding verdictOf
-front-accepted [] js e = refl
-front-accepted (k ∷ ks) js e = elim (which (eqb (firstFailing k) (k .rows))) [
-  | inl f ↦ rw (verdictOf, f) (front-accepted ks js (rw (verdictOf, f) at e))
-  | inr f ↦ (let z : Refused (k .refusal (firstFailing k)) ≡ Accepted = rw (verdictOf, f) at e in cc)
-]
 
 -- what a run that is done has passed
 pub record Runnable (c : Tables) (xs l ls os : List ℕ) : Type 0 where
@@ -107,12 +98,11 @@ run-run c xs ys l ls os ks ps n m l′ ls′ os′ l″ ks′ ps′ p q =
       leaves = rw (length-append, length-append) (omega (arith, r .leaves, t .leaves));
       outputs = rw (length-append, length-append) (omega (arith, r .outputs, t .outputs));
     }) in
-    record {
-      answers = rw u (ap A.Done (rw length-append (omega (arith, done-scans c xs l ls os n l′ ls′ os′ p, done-scans c ys l′ ks ps m l″ ks′ ps′ q))));
-      state = rw (u, after-append, ← mid) (rw w at (q .state));
-      leaves = rw (u, trace-append, map-append, ← mid) (ap₂ _++_ (rw v at (p .leaves)) (rw w at (q .leaves)));
-      outputs = rw (u, trace-append, map-append, ← mid) (ap₂ _++_ (rw v at (p .outputs)) (rw w at (q .outputs)));
-    }
+    run-by c (xs ++ ys) l (ls ++ ks) (os ++ ps) (A.Done (n + m)) l″ (ls′ ++ ks′) (os′ ++ ps′)
+    (rw u (ap A.Done (rw length-append (omega (arith, done-scans c xs l ls os n l′ ls′ os′ p, done-scans c ys l′ ks ps m l″ ks′ ps′ q)))))
+    (rw (u, after-append, ← mid) (rw w at (q .state)))
+    (rw (u, trace-append, map-append, ← mid) (ap₂ _++_ (rw v at (p .leaves)) (rw w at (q .leaves))))
+    (rw (u, trace-append, map-append, ← mid) (ap₂ _++_ (rw v at (p .outputs)) (rw w at (q .outputs))))
 
 -- ---- scan by scan
 
@@ -123,7 +113,7 @@ step-run c x l a o l′ d e p =
     let w : stepVerdict c l ≡ Accepted = shown-accepted (stepVerdict c l) (seen c (step c x (stateOf c l))) a o (p .answers) in
     let v : runVerdict c (x ∷ []) l (d ∷ []) (e ∷ []) ≡ Accepted = same-verdict c x l d e ∙ w in
     let z : S.Done a o ≡ S.Done (seen c (step c x (stateOf c l)) .leaf) (seen c (step c x (stateOf c l)) .outputs) = rw w at (p .answers) in
-    record { answers = rw v; state = rw v (rw w at (p .state)); leaves = rw v (ap (λ n. n ∷ []) cc); outputs = rw v (ap (λ n. n ∷ []) cc) }
+    run-by c (x ∷ []) l (d ∷ []) (e ∷ []) (A.Done 1) l′ (a ∷ []) (o ∷ []) (rw v) (rw v (rw w at (p .state))) (rw v (ap (λ n. n ∷ []) cc)) (rw v (ap (λ n. n ∷ []) cc))
 
 -- a run is a scan and then the run of the rest
 pub step-then-run : (c : Tables) (x : ℕ) (xs l : List ℕ) (a o : ℕ) (l′ : List ℕ) (d e : ℕ) (ls os : List ℕ) (n : ℕ) (l″ ls′ os′ : List ℕ)
@@ -160,18 +150,17 @@ module _ (c : Tables) (xs ys : List ℕ) (h : SameInputs c xs ys) (l ls os : Lis
       go : (v : Verdict) → runVerdict c xs l ls os ≡ v → ChartRan c ys l ls os r l′ ls′ os′
       go Accepted e = unfold left answer in (
           let t = same-trace c (accepted-exactly c .0 (accepted-runnable c xs l ls os e .tables)) xs ys (stateOf c l) h in
-          record {
-            answers = rw (same-checks, ← h .scans) (p .answers);
-            state = rw (same-checks, ← t .1) (p .state);
-            leaves = rw (same-checks, ← t .0) (p .leaves);
-            outputs = rw (same-checks, ← t .0) (p .outputs);
-          })
-      go (Refused q) e = unfold left answer in (record {
-        answers = rw (same-checks, e) (rw e at (p .answers));
-        state = rw (same-checks, e) (rw e at (p .state));
-        leaves = rw (same-checks, e) (rw e at (p .leaves));
-        outputs = rw (same-checks, e) (rw e at (p .outputs));
-      })
+          run-by c ys l ls os r l′ ls′ os′
+          (rw (same-checks, ← h .scans) (p .answers))
+          (rw (same-checks, ← t .1) (p .state))
+          (rw (same-checks, ← t .0) (p .leaves))
+          (rw (same-checks, ← t .0) (p .outputs)))
+      go (Refused q) e = unfold left answer in
+          (run-by c ys l ls os r l′ ls′ os′
+          (rw (same-checks, e) (rw e at (p .answers)))
+          (rw (same-checks, e) (rw e at (p .state)))
+          (rw (same-checks, e) (rw e at (p .leaves)))
+          (rw (same-checks, e) (rw e at (p .outputs))))
 
 -- and so does one scan
 pub step-above : (c : Tables) (x y : ℕ) → ((i : ℕ) → 1 ≤ i → i ≤ c .inputs → inputOn x i ≡ inputOn y i) → (l : List ℕ) (r : Stepped) (l′ : List ℕ) → ChartStepped c x l r l′ → ChartStepped c y l r l′
