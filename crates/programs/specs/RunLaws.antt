@@ -33,7 +33,7 @@ use Rattle.programs.specs.declared.Ran.{Ran}
 use Rattle.programs.specs.declared.Ran.the-variants.{Done, Refused}
 use Rattle.programs.specs.declared.Scanned.{Scanned}
 use Rattle.programs.specs.declared.Scanned.the-variants as One
-use Rattle.programs.specs.Runs.{Refuses, Accepts, ProgramRan, ProgramScanned}
+use Rattle.programs.specs.Runs.{Refuses, Accepts, Ends, ProgramRan, ProgramScanned, run-ends}
 
 -- ---- the blocks in time
 
@@ -191,11 +191,11 @@ run-done {d} {ws} {xs} {fs} {bs} {l} {fs′ = fs′} {bs′ = bs′} t j e u n r
     let g = row-run-right d p ws fs bs xs (record { program = a .1 .program; list = a .1 .list }) (few (a .1)) in
     let k : holding fs′ bs′ ≡ holding (runOf d ws fs bs xs .ff) (runOf d ws fs bs xs .bs) = rw (u .flipFlops, u .blocks) in
     let o = outputs-long d ws fs bs xs in
-    ProgramRan.ran p (a .1) (r ∙ ap Done n) (k ∙ g .0) (u .results ∙ all-set l (runOf d ws fs bs xs .os) (a .1 .scans ∙ sym o) ∙ g .1)
+    run-ends (Ends.ran p (a .1) (r ∙ ap Done n) (k ∙ g .0) (u .results ∙ all-set l (runOf d ws fs bs xs .os) (a .1 .scans ∙ sym o) ∙ g .1))
 
 pub run-refused : {d : ℕ} {ws xs fs : List ℕ} {bs : List Block} {l : List ℕ} {v : Verdict} {timely : Bool} {r : Ran} → timely ≡ timelyOf ws bs → JudgedBy d ws fs (length bs) timely (length xs) (length l) v → isAccepted v ≡ false
     → r ≡ ranFor v → ProgramRan d ws xs (holding fs bs) l r (holding fs bs) l
-run-refused {v = v} t j e r = let q = refused-is v e in ProgramRan.refused (refusal v) (refuses (rw t at j) (refusal v) q) (r ∙ ap ranFor q) refl refl
+run-refused {v = v} t j e r = let q = refused-is v e in run-ends (Ends.refused (refusal v) (refuses (rw t at j) (refusal v) q) (r ∙ ap ranFor q) refl refl)
 
 pub scan-done : {d : ℕ} {ws fs : List ℕ} {x : ℕ} {bs : List Block} {v : Verdict} {timely : Bool} {r : Scanned} {o : ℕ} {fs′ : List ℕ} {bs′ : List Block} → timely ≡ timelyOf ws bs → JudgedBy d ws fs (length bs) timely 1 1 v → isAccepted v ≡ true
     → RowScan d x ws fs bs fs′ bs′ o → r ≡ One.Outputs o → ProgramScanned d ws x (holding fs bs) r (holding fs′ bs′)

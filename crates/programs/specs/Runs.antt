@@ -1,19 +1,28 @@
 -- What the calls that run a program answer, and that each has no second answer.
-use mathlib.Core.Path.{_≡_, refl, sym, ap, _∙_}
+use mathlib.Core.Path.{_≡_, refl, sym, ap, ap₂, _∙_}
 use Prim.Native.Nat.{ℕ, _<_}
 use mathlib.Core.Bool.{Bool, true, false, false≢true}
-use mathlib.Core.List.{List, [], _∷_}
+use mathlib.Core.List.{List, [], _∷_, map}
+use native.Mathlib.Omega.{arith}
 use lib.ListN.{length}
-use Rattle.meaning.specs.Tables.{mostStep}
+use Rattle.meaning.specs.Tables.{Tables, mostStep}
+use Rattle.meaning.specs.Rules.{Rules}
+use Rattle.meaning.specs.Machine.{Seen}
+use Rattle.meaning.specs.History.{firstLeaf, reading}
+use Rattle.meaning.specs.Written.{program}
+use Rattle.meaning.specs.Stands.{shownLeaf}
+use Rattle.meaning.specs.ProgramLaws.{program-fits}
+use Rattle.meaning.specs.DemandLaws.{lastLeaf}
 use Rattle.meaning.specs.Literals.{between}
 use Rattle.meaning.specs.Programs.{Program, instructions, fits}
-use Rattle.meaning.specs.Scan.{Controller, ValidController, scanned, outputWord, scannedAll, outputTrace}
+use Rattle.meaning.specs.Scan.{Controller, ValidController, cleared, scanned, outputWord, scannedAll, outputTrace}
 use Rattle.meaning.specs.declared.Block.{Block}
 use Rattle.meaning.specs.declared.Refusal.{Refusal}
 use Rattle.meaning.specs.declared.Refusal.the-variants.{Size, Text, State, Scans}
 use Rattle.format.specs.Words.{words, AcceptedWords}
 use Rattle.format.specs.Places.{WordPlace}
 use Rattle.format.specs.WordLaws.{words-same, place-same}
+use Rattle.format.specs.Bytes.{words-run}
 use Rattle.il.specs.Scans.{holding}
 use Rattle.programs.specs.declared.Ran.{Ran}
 use Rattle.programs.specs.declared.Ran.the-variants.{Done, Refused}
@@ -36,10 +45,16 @@ pub record Accepts (d : ℕ) (ws : List ℕ) (k : Controller) (n m : ℕ) (p : P
   pub state : ValidController p k
   pub scans : m ≡ n
 
--- a run with the input words xs, from the controller k and the results l: "A refusal writes nothing."
-pub data ProgramRan (d : ℕ) (ws xs : List ℕ) (k : Controller) (l : List ℕ) (r : Ran) (k′ : Controller) (l′ : List ℕ) : Type 0 where
-  ran : (p : Program) → Accepts d ws k (length xs) (length l) p → r ≡ Done (length xs) → k′ ≡ scannedAll d (instructions p) k xs → l′ ≡ outputTrace d (instructions p) k xs → ProgramRan d ws xs k l r k′ l′
-  refused : (q : Refusal) → Refuses d ws k (length xs) (length l) q → r ≡ Refused q → k′ ≡ k → l′ ≡ l → ProgramRan d ws xs k l r k′ l′
+-- how a run with the input words xs ends, from the controller k and the results l: "A refusal writes nothing."
+pub data Ends (d : ℕ) (ws xs : List ℕ) (k : Controller) (l : List ℕ) (r : Ran) (k′ : Controller) (l′ : List ℕ) : Type 0 where
+  ran : (p : Program) → Accepts d ws k (length xs) (length l) p → r ≡ Done (length xs) → k′ ≡ scannedAll d (instructions p) k xs → l′ ≡ outputTrace d (instructions p) k xs → Ends d ws xs k l r k′ l′
+  refused : (q : Refusal) → Refuses d ws k (length xs) (length l) q → r ≡ Refused q → k′ ≡ k → l′ ≡ l → Ends d ws xs k l r k′ l′
+
+pub record ProgramRan (d : ℕ) (ws xs : List ℕ) (k : Controller) (l : List ℕ) (r : Ran) (k′ : Controller) (l′ : List ℕ) : Type 0 where
+  pub ends : Ends d ws xs k l r k′ l′
+  -- demand 3, of every chart whose program the words are: from cleared memory the outputs after each scan, and the leaf that the flip-flops show in the end, are what the inputs and the list of earlier leaves call for
+  pub reads : (n : ℕ) → r ≡ Done n → (c : Tables) → Rules c → c .step ≡ d → words (program c) ≡ ws → k ≡ cleared (program c)
+      → (l′ ≡ map (λ (e : Seen). e .outputs) (reading c xs)) × (shownLeaf c (k′ .flipFlops) ≡ lastLeaf (firstLeaf c) (reading c xs))
 
 -- one scan with the input word x
 pub data ProgramScanned (d : ℕ) (ws : List ℕ) (x : ℕ) (k : Controller) (r : Scanned) (k′ : Controller) : Type 0 where
@@ -79,12 +94,29 @@ module _ {d : ℕ} {ws : List ℕ} {k : Controller} {n m : ℕ} where
   same-program : {p s : Program} → Accepts d ws k n m p → Accepts d ws k n m s → p ≡ s
   same-program {p} {s} a b = words-same p s (a .program) (b .program) (a .list ∙ sym (b .list))
 
-pub one-program-run : {d : ℕ} {ws xs : List ℕ} {k : Controller} {l : List ℕ} {r s : Ran} {j k′ : Controller} {m l′ : List ℕ} → ProgramRan d ws xs k l r k′ l′ → ProgramRan d ws xs k l s j m → (r ≡ s) × (k′ ≡ j) × (l′ ≡ m)
-one-program-run {d} {ws} {xs} {k} (ProgramRan.ran p a e f g) (ProgramRan.ran s b h i o) = let z = same-program a b in
+ends-same : {d : ℕ} {ws xs : List ℕ} {k : Controller} {l : List ℕ} {r s : Ran} {j k′ : Controller} {m l′ : List ℕ} → Ends d ws xs k l r k′ l′ → Ends d ws xs k l s j m → (r ≡ s) × (k′ ≡ j) × (l′ ≡ m)
+ends-same {d} {ws} {xs} {k} (Ends.ran p a e f g) (Ends.ran s b h i o) = let z = same-program a b in
     (e ∙ sym h, f ∙ ap (λ (t : Program). scannedAll d (instructions t) k xs) z ∙ sym i, g ∙ ap (λ (t : Program). outputTrace d (instructions t) k xs) z ∙ sym o)
-one-program-run (ProgramRan.ran p a e f g) (ProgramRan.refused q b h i o) = absurd (never a b)
-one-program-run (ProgramRan.refused q a e f g) (ProgramRan.ran p b h i o) = absurd (never b a)
-one-program-run (ProgramRan.refused q a e f g) (ProgramRan.refused s b h i o) = (e ∙ ap Refused (refuses-same a b) ∙ sym h, f ∙ sym i, g ∙ sym o)
+ends-same (Ends.ran p a e f g) (Ends.refused q b h i o) = absurd (never a b)
+ends-same (Ends.refused q a e f g) (Ends.ran p b h i o) = absurd (never b a)
+ends-same (Ends.refused q a e f g) (Ends.refused s b h i o) = (e ∙ ap Refused (refuses-same a b) ∙ sym h, f ∙ sym i, g ∙ sym o)
+
+pub one-program-run : {d : ℕ} {ws xs : List ℕ} {k : Controller} {l : List ℕ} {r s : Ran} {j k′ : Controller} {m l′ : List ℕ} → ProgramRan d ws xs k l r k′ l′ → ProgramRan d ws xs k l s j m → (r ≡ s) × (k′ ≡ j) × (l′ ≡ m)
+one-program-run p q = ends-same (p .ends) (q .ends)
+
+-- how a run ends is all that there is to prove
+pub run-ends : {d : ℕ} {ws xs : List ℕ} {k : Controller} {l : List ℕ} {r : Ran} {k′ : Controller} {l′ : List ℕ} → Ends d ws xs k l r k′ l′ → ProgramRan d ws xs k l r k′ l′
+run-ends {d} {ws} {xs} {k} {l} {r} {k′} {l′} (Ends.ran p a e f g) = record {
+  ends = Ends.ran p a e f g;
+  reads = λ n z c R s w m.
+      let q : p ≡ program c = words-same p (program c) (a .program) (program-fits c R) (a .list ∙ sym w) in
+      let o : k ≡ cleared p = m ∙ ap cleared (sym q) in
+      let t = words-run c R p (a .program) (a .list ∙ sym w) xs in (
+        g ∙ ap₂ (λ (b : ℕ) (j : Controller). outputTrace b (instructions p) j xs) (sym s) o ∙ t .0,
+        ap (λ (j : Controller). shownLeaf c (j .flipFlops)) (f ∙ ap₂ (λ (b : ℕ) (j : Controller). scannedAll b (instructions p) j xs) (sym s) o) ∙ t .1,
+      );
+}
+run-ends (Ends.refused q b e f g) = record { ends = Ends.refused q b e f g; reads = λ n z. absurd (let o : _≡_ {A = ℕ} 0 1 = cc in omega arith) }
 
 pub one-program-scan : {d : ℕ} {ws : List ℕ} {x : ℕ} {k : Controller} {r s : Scanned} {j k′ : Controller} → ProgramScanned d ws x k r k′ → ProgramScanned d ws x k s j → (r ≡ s) × (k′ ≡ j)
 one-program-scan {d} {ws} {x} {k} (ProgramScanned.ran p a e f) (ProgramScanned.ran s b h i) = let z = same-program a b in
