@@ -1,12 +1,14 @@
 -- The machine's state as the code holds it, and what a run of it leaves.
 use mathlib.Core.Path.{_≡_}
-use Prim.Native.Nat.{ℕ, _+_, _*_, _-_, _/_, min}
+use Prim.Native.Nat.{ℕ, _+_, _*_, _-_, _/_, _≤_, _<_, min}
 use mathlib.Core.Bool.{Bool, cond}
 use mathlib.Core.List.{List, map}
-use lib.ListN.{take}
+use lib.ListN.{length, getD, take}
 use lib.IntN.{ℤ}
-use Rattle.meaning.specs.Tables.{Tables, stateCount, timerCount}
+use Rattle.meaning.specs.Tables.{Tables, stateCount, moveCount, timerCount}
 use Rattle.meaning.specs.Machine.{State, Seen, trace, after}
+use Rattle.paths.specs.Words.{Worded}
+use Rattle.moving.specs.Moves.{LinkedTo, AskedTo}
 
 -- the state that is held in an array of sub-states and an array of values
 abbrev pub held : Tables → List ℕ → List ℕ → State
@@ -16,9 +18,25 @@ held c m ts = record { memory = take (stateCount c) m; timers = take (timerCount
 abbrev pub longest : ℕ → ℕ → ℕ
 longest d p = (p + d - 1) / d * d
 
--- a value after a step, for a timer that ran before and runs after, or not
+-- a value after a step of d ms, up to m, for a timer that ran before and runs after, or not
 abbrev pub grown : ℕ → ℕ → Bool → ℕ → ℕ
-grown d p b v = cond b (min (v + d) (longest d p)) 0
+grown d m b v = cond b (min (v + d) m) 0
+
+-- what is made once for all scans: of each state the timers that run in it, the moves by their source, the literals as words, N scan steps of each timer
+pub record Made (c : Tables) (runs links asks most : List ℕ) : Type 0 where
+  pub running : Worded c (c .timerPairs) runs
+  pub linked : LinkedTo c (moveCount c) links
+  pub asked : AskedTo c (moveCount c) asks
+  pub room : moveCount c ≤ length asks / 4
+  pub longest : (i : ℕ) → i < timerCount c → getD most i 0 ≡ longest (c .step) (getD (c .presets) i 0)
+
+-- room for what is made, with nothing in it
+pub record Empty (c : Tables) (runs shows asks : List ℕ) : Type 0 where
+  pub runsRoom : stateCount c ≤ length runs
+  pub showsRoom : stateCount c ≤ length shows
+  pub asksRoom : moveCount c ≤ length asks / 4
+  pub noRuns : (s : ℕ) → getD runs s 0 ≡ 0
+  pub noShows : (s : ℕ) → getD shows s 0 ≡ 0
 
 -- after scans on the words xs from s: the state, the leaves and the output words
 pub record Scanned (c : Tables) (s : State) (xs : List ℕ) (s′ : State) (ls os : List ℕ) : Type 0 where

@@ -1,65 +1,51 @@
 -- A step as the code does it, from its flags and arrays, is the step of the chart.
-use mathlib.Core.Path.{_≡_, refl, sym, ap, ap₂, subst, _∙_}
-use Prim.Native.Nat.{ℕ, zero, suc, _+_, _-_, _≤_, _<_}
+use mathlib.Core.Path.{_≡_, sym, ap, ap₂, subst, _∙_, refl}
+use Prim.Native.Nat.{ℕ, suc, _+_, _-_, _≤_, _<_}
 use native.Mathlib.Omega.{arith}
 use native.Mathlib.Nat.{div-mul-le-self}
 use native.Mathlib.Numerals.{one-add, add-one}
 use mathlib.Core.Bool.{cond, _&&_}
 use mathlib.Core.List.{List, [], _∷_, map-append}
-use lib.ListN.{length, getD, set, take}
+use native.Mathlib.Decide.{decLe}
+use lib.ListN.{length, getD, set, take, replicate, length-replicate, getD-replicate, List·getD-eq-default}
 use lib.Seq.{getD-take, length-take-le, take-suc, take-suc-set}
 use lib.Dec.{leb, ltb}
-use Rattle.meaning.specs.Rows.{some, least, table}
-use Rattle.meaning.specs.RowsLaws.{least-same}
-use Rattle.meaning.specs.Tables.{Tables, mostStates, stateCount, moveCount, timerCount, pairCount, source, preset, steps}
-use Rattle.meaning.specs.Hierarchy.{runs, outputOn, paired}
-use Rattle.meaning.specs.Literals.{literalsHold}
+use Rattle.meaning.specs.Rows.{some, table}
+use Rattle.meaning.specs.Tables.{Tables, stateCount, moveCount, timerCount, pairCount, preset, steps}
+use Rattle.meaning.specs.Hierarchy.{runs, paired}
+use Rattle.meaning.specs.Literals.{inputOn}
 use Rattle.meaning.specs.Rules.{Rules}
-use Rattle.meaning.specs.Machine.{State, Valid, seen, trace, after, timerValue, activeLeaf, enabled, chosen, expired, timed, setting, memoryAfter, moved, step, wordOf, seenAt}
+use Rattle.meaning.specs.Machine.{State, Valid, seen, trace, after, timerValue, activeLeaf, chosen, expired, timed, setting, memoryAfter, moved, step, seenAt}
 use Rattle.meaning.specs.MachineLaws.{Sound, valid-sound, after-step, moved-sound, trace-append, after-append, chosen-same}
-use Rattle.paths.specs.Flags.{on, Path, Paired, rowOn, expiredAt}
+use Rattle.paths.specs.Flags.{on, Path, Paired, rowOn}
+use Rattle.paths.specs.Words.{expiredAt}
 use Rattle.paths.specs.FlagsLaws.{rows-paired, is-table}
-use Rattle.moving.specs.Moves.{read, enabledOn}
+use Rattle.moving.specs.Moves.{read}
 use Rattle.machine.specs.Held.{Scanned, held, longest, grown}
-
-table-same : {A : Type 0} (f g : ℕ → A) (i n : ℕ) → ((k : ℕ) → i ≤ k → k < i + n → f k ≡ g k) → table f i n ≡ table g i n
-unfolding table
-table-same f g i zero h = refl
-table-same f g i (suc n) h = ap₂ _∷_ (h i (omega arith) (omega arith)) (table-same f g (suc i) n (λ k a b. h k (omega arith) (omega arith)))
 
 module _ (c : Tables) (R : Rules c) where
   -- the flags of the timers that run
   pub timers-paired : (l : ℕ) (fs rs : List ℕ) → Path c l fs → ((n : ℕ) → n < 65 → on rs n ≡ some (rowOn (c .timerPairs) fs n) 0 (pairCount (c .timerPairs))) → Paired c (c .timerPairs) l rs
   timers-paired l fs rs p f n h = f n h ∙ rows-paired c (c .timerPairs) l fs p (λ i z. omega (arith, R .timerPairs i z .state, R .size .fewStates)) n
 
-  -- the flags of the outputs that are on
-  pub outputs-paired : (l : ℕ) (fs rs : List ℕ) → Path c l fs → ((n : ℕ) → n < 65 → on rs n ≡ some (rowOn (c .outputPairs) fs n) 0 (pairCount (c .outputPairs))) → Paired c (c .outputPairs) l rs
-  outputs-paired l fs rs p f n h = f n h ∙ rows-paired c (c .outputPairs) l fs p (λ i z. omega (arith, R .outputPairs i z .state, R .size .fewStates)) n
-
-  source-known : (i : ℕ) → i < moveCount c → source c i < mostStates
-  unfolding source
-  source-known i h = let r = R .moves i h .fromKnown in rw (r .1) (omega (arith, r .2, R .size .fewStates))
-
-  -- the choice by flags
-  pub chosen-on : (x : ℕ) (m ts fs rs es : List ℕ) → Path c (activeLeaf c (take (stateCount c) m)) fs → Paired c (c .timerPairs) (activeLeaf c (take (stateCount c) m)) rs
-      → ((i : ℕ) → i < 32 → on es (suc i) ≡ expiredAt (c .presets) rs ts i)
-      → least (enabledOn c fs (read x es)) 0 (moveCount c) ≡ chosen c (setting c x (held c m ts)) (activeLeaf c (take (stateCount c) m))
-  unfolding setting chosen enabled
-  chosen-on x m ts fs rs es p q f =
-      least-same (enabledOn c fs (read x es)) (enabled c (read x es) (activeLeaf c (take (stateCount c) m))) 0 (moveCount c) (λ k a b. ap (λ d. d && literalsHold c (read x es) k) (p (source c k) (source-known k (omega arith))))
-      ∙ chosen-same c R (read x es) (setting c x (held c m ts)) (λ i a b. refl) same (activeLeaf c (take (stateCount c) m))
+  -- the choice by words
+  pub chosen-on : (x w y l : ℕ) (m ts : List ℕ) → l ≡ activeLeaf c (take (stateCount c) m) → ((n : ℕ) → n < 64 → inputOn w (suc n) ≡ paired c (c .timerPairs) (suc n) l)
+      → ((i : ℕ) → i < timerCount c → inputOn y (suc i) ≡ expiredAt (c .presets) w ts i)
+      → chosen c (read x y) l ≡ chosen c (setting c x (held c m ts)) (activeLeaf c (take (stateCount c) m))
+  unfolding setting
+  chosen-on x w y l m ts e q f = rw e (chosen-same c R (read x y) (setting c x (held c m ts)) (λ i a b. refl) same (activeLeaf c (take (stateCount c) m)))
     where
-      row : (i : ℕ) → i < timerCount c → on es (suc i) ≡ expired c (activeLeaf c (take (stateCount c) m)) (take (timerCount c) ts) (suc i)
+      row : (i : ℕ) → i < timerCount c → inputOn y (suc i) ≡ expired c (activeLeaf c (take (stateCount c) m)) (take (timerCount c) ts) (suc i)
       row i h = unfold expired runs preset timerValue in (
           let few = R .size .fewTimers in
           let z : suc i - 1 ≡ i = omega arith in
-          rw (z, getD-take (timerCount c) ts i 0 h) (f i (omega arith) ∙ ap (λ d. d && leb (getD (c .presets) i 0) (getD ts i 0)) (q (suc i) (omega arith))))
+          rw (z, getD-take (timerCount c) ts i 0 h, ← e) (f i h ∙ ap (λ d. d && leb (getD (c .presets) i 0) (getD ts i 0)) (q i (omega arith))))
 
-      same : (t : ℕ) → 1 ≤ t → t ≤ timerCount c → on es t ≡ expired c (activeLeaf c (take (stateCount c) m)) (take (timerCount c) ts) t
+      same : (t : ℕ) → 1 ≤ t → t ≤ timerCount c → inputOn y t ≡ expired c (activeLeaf c (take (stateCount c) m)) (take (timerCount c) ts) t
       same t a b = let z : t ≡ suc (t - 1) = omega arith in rw z (row (t - 1) (omega arith))
 
   -- N scan steps fit 32 bits
-  longest-fits : (i : ℕ) → i < timerCount c → longest (c .step) (getD (c .presets) i 0) < 4294967296
+  pub longest-fits : (i : ℕ) → i < timerCount c → longest (c .step) (getD (c .presets) i 0) < 4294967296
   longest-fits i h = go
     where
       high : getD (c .presets) i 0 ≤ 86400000
@@ -68,19 +54,29 @@ module _ (c : Tables) (R : Rules c) where
       go : longest (c .step) (getD (c .presets) i 0) < 4294967296
       go = omega (arith, div-mul-le-self (getD (c .presets) i 0 + c .step - 1) (c .step), high, R .size .smallStep)
 
+  -- N scan steps of each timer, from the lent presets
+  pub longest-made : (ps most : List ℕ) (d : ℕ) → c .presets ≡ ps → c .step ≡ d
+      → (length ps ≤ 32 → 1 ≤ d → (i : ℕ) → i < length ps → longest d (getD ps i 0) < 4294967296 → getD most i 0 ≡ longest d (getD ps i 0))
+      → (i : ℕ) → i < timerCount c → getD most i 0 ≡ longest (c .step) (getD (c .presets) i 0)
+  longest-made ps most d e f g i h =
+      let n : timerCount c ≡ length ps = unfold timerCount in (ap length e) in
+      let few = R .size .fewTimers in
+      let some = R .size .someStep in
+      rw (e, f) (g (omega arith) (omega arith) i (omega arith) (rw (e, f) at (longest-fits i h)))
+
   -- the timers after a step
-  pub timers-after : (l l′ : ℕ) (ts rs rs′ next : List ℕ) → length next ≡ 32 → Paired c (c .timerPairs) l rs → Paired c (c .timerPairs) l′ rs′
-      → ((i : ℕ) → i < 32 → longest (c .step) (getD (c .presets) i 0) < 4294967296 → getD next i 0 ≡ grown (c .step) (getD (c .presets) i 0) (on rs (suc i) && on rs′ (suc i)) (getD ts i 0))
+  pub timers-after : (l l′ w : ℕ) (ts next : List ℕ) → length next ≡ 32 → ((n : ℕ) → n < 64 → inputOn w (suc n) ≡ (paired c (c .timerPairs) (suc n) l && paired c (c .timerPairs) (suc n) l′))
+      → ((i : ℕ) → i < timerCount c → getD next i 0 ≡ grown (c .step) (longest (c .step) (getD (c .presets) i 0)) (inputOn w (suc i)) (getD ts i 0))
       → take (timerCount c) next ≡ table (timed c l l′ (take (timerCount c) ts)) 1 (timerCount c)
-  timers-after l l′ ts rs rs′ next e p q f = let few = R .size .fewTimers in
+  timers-after l l′ w ts next e p f = let few = R .size .fewTimers in
       is-table (timed c l l′ (take (timerCount c) ts)) 1 (timerCount c) (take (timerCount c) next) (length-take-le (timerCount c) next (omega arith))
-      (λ i h. getD-take (timerCount c) next i 0 h ∙ f i (omega arith) (longest-fits i h) ∙ rw one-add (sym (row i h)))
+      (λ i h. getD-take (timerCount c) next i 0 h ∙ f i h ∙ rw one-add (sym (row i h)))
     where
-      row : (i : ℕ) → i < timerCount c → timed c l l′ (take (timerCount c) ts) (suc i) ≡ grown (c .step) (getD (c .presets) i 0) (on rs (suc i) && on rs′ (suc i)) (getD ts i 0)
+      row : (i : ℕ) → i < timerCount c → timed c l l′ (take (timerCount c) ts) (suc i) ≡ grown (c .step) (longest (c .step) (getD (c .presets) i 0)) (inputOn w (suc i)) (getD ts i 0)
       row i h = unfold timed runs steps preset timerValue in (
           let few = R .size .fewTimers in
           let z : suc i - 1 ≡ i = omega arith in
-          rw (z, getD-take (timerCount c) ts i 0 h, p (suc i) (omega arith), q (suc i) (omega arith)))
+          rw (z, getD-take (timerCount c) ts i 0 h, p i (omega arith)))
 
   -- the memory and the timers after a step make the state after it
   pub step-is : (x : ℕ) (s : State) (m ts : List ℕ) → m ≡ memoryAfter c x s → ts ≡ table (timed c (activeLeaf c (s .memory)) (activeLeaf c m) (s .timers)) 1 (timerCount c)
@@ -92,14 +88,14 @@ module _ (c : Tables) (R : Rules c) where
       the-state a b = record { memory = a; timers = b }
 
   -- the arrays that a step leaves hold the state after it
-  pub step-held : (x : ℕ) (m ts m′ ts′ : List ℕ) (i : ℕ) (rs rs′ : List ℕ) → Valid c (held c m ts) → length ts′ ≡ 32
-      → Paired c (c .timerPairs) (activeLeaf c (take (stateCount c) m)) rs
+  pub step-held : (x i w : ℕ) (m ts m′ ts′ : List ℕ) → Valid c (held c m ts) → length ts′ ≡ 32
       → i ≡ chosen c (setting c x (held c m ts)) (activeLeaf c (take (stateCount c) m))
       → take (stateCount c) m′ ≡ cond (ltb i (moveCount c)) (moved c i (take (stateCount c) m)) (take (stateCount c) m)
-      → (Sound c (take (stateCount c) m′) → Paired c (c .timerPairs) (activeLeaf c (take (stateCount c) m′)) rs′)
-      → ((j : ℕ) → j < 32 → longest (c .step) (getD (c .presets) j 0) < 4294967296 → getD ts′ j 0 ≡ grown (c .step) (getD (c .presets) j 0) (on rs (suc j) && on rs′ (suc j)) (getD ts j 0))
+      → (Sound c (take (stateCount c) m′) → (n : ℕ) → n < 64
+      → inputOn w (suc n) ≡ (paired c (c .timerPairs) (suc n) (activeLeaf c (take (stateCount c) m)) && paired c (c .timerPairs) (suc n) (activeLeaf c (take (stateCount c) m′))))
+      → ((j : ℕ) → j < timerCount c → getD ts′ j 0 ≡ grown (c .step) (longest (c .step) (getD (c .presets) j 0)) (inputOn w (suc j)) (getD ts j 0))
       → held c m′ ts′ ≡ step c x (held c m ts)
-  step-held x m ts m′ ts′ i rs rs′ v e p q f g h = step-is x (held c m ts) _ _ after-memory (timers-after _ _ ts rs rs′ ts′ e p (g sound) h)
+  step-held x i w m ts m′ ts′ v e q f g h = step-is x (held c m ts) _ _ after-memory (timers-after _ _ w ts ts′ e (g sound) h)
     where
       after-memory : take (stateCount c) m′ ≡ memoryAfter c x (held c m ts)
       after-memory = unfold memoryAfter in (rw q at f)
@@ -107,10 +103,10 @@ module _ (c : Tables) (R : Rules c) where
       sound : Sound c (take (stateCount c) m′)
       sound = let S = valid-sound c R (held c m ts) v in rw after-memory (after-step c x (held c m ts) (Sound c) S (moved-sound c R (take (stateCount c) m) S))
 
-  -- the output word
-  pub word-seen : (l : ℕ) (rs : List ℕ) → Paired c (c .outputPairs) l rs → wordOf (table (on rs) 1 (c .outputs)) ≡ seenAt c l .outputs
-  unfolding seenAt outputOn
-  word-seen l rs p = ap wordOf (table-same (on rs) (λ o. paired c (c .outputPairs) o l) 1 (c .outputs) (λ k a b. p k (omega (arith, R .size .fewOutputs))))
+-- ---- arrays that are all 0
+
+pub zeros : (n s : ℕ) → _≡_ {A = ℕ} (getD (replicate n 0) s 0) 0
+zeros n s = elim (decLe (suc s) n) [ yes h ↦ getD-replicate n s 0 0 h | no h ↦ List·getD-eq-default (replicate n 0) 0 (rw (length-replicate {A = ℕ} n 0) (omega arith)) ]
 
 -- ---- scans
 

@@ -1,2 +1,4 @@
 pub mod Moves
 pub mod EnterLaws
+pub mod AskLaws
+pub mod LinkLaws

@@ -4,7 +4,7 @@ use Prim.Native.Nat.{ℕ, zero, suc, _<_}
 use mathlib.Core.Bool.{Bool, _&&_, cond}
 use mathlib.Core.List.{List}
 use lib.ListN.{getD}
-use lib.Dec.{eqb, leb}
+use lib.Dec.{eqb}
 use Rattle.meaning.specs.Tables.{Tables, mostStates, pairNumber, pairState}
 use Rattle.meaning.specs.Hierarchy.{atOrAbove, paired}
 
@@ -27,10 +27,6 @@ Paired c ps l fs = (n : ℕ) → n < flagCount → on fs n ≡ paired c ps n l
 -- row i pairs n with a state that has its flag in fs
 abbrev pub rowOn : List ℕ → List ℕ → ℕ → ℕ → Bool
 rowOn ps fs n i = eqb (pairNumber ps i) n && on fs (pairState ps i)
-
--- the timer of row i runs, by its flag, and is at least its preset
-abbrev pub expiredAt : List ℕ → List ℕ → List ℕ → ℕ → Bool
-expiredAt ps fs ts i = on fs (suc i) && leb (getD ps i 0) (getD ts i 0)
 
 -- from s down, k levels at most, by the numbers that g gives, until that is 0
 unfoldable pub walk : (ℕ → ℕ) → ℕ → ℕ → ℕ

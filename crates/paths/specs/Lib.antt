@@ -1,2 +1,4 @@
 pub mod Flags
 pub mod FlagsLaws
+pub mod Words
+pub mod WordsLaws

@@ -2,13 +2,19 @@
 // expired, which outputs are on.
 use tables::Chart;
 ghost use mathlib.Core.Path.{_≡_};
-ghost use mathlib.Core.Bool.{cond, _||_};
-ghost use Prim.Native.Nat.{ℕ, suc, _<_, _≤_};
+ghost use mathlib.Core.Bool.{cond, _&&_, _||_};
+ghost use lib.Dec.{eqb};
+ghost use Prim.Native.Nat.{ℕ, suc, _<_, _≤_, _^_};
 ghost use lib.ListN.{length, getD, set};
-ghost use Rattle.meaning.specs.Rows.{some, table};
-ghost use Rattle.meaning.specs.Tables.{Tables, pairCount};
-ghost use Rattle.meaning.specs.Machine.{remembered, wordOf};
-ghost use Rattle.paths.specs.Flags.{on, Path, rowOn, expiredAt, walk};
+ghost use Rattle.meaning.specs.Rows.{some};
+ghost use Rattle.meaning.specs.Tables.{Tables, stateCount, superState, pairCount};
+ghost use Rattle.meaning.specs.Machine.{remembered};
+ghost use Rattle.meaning.specs.Literals.{inputOn};
+ghost use lib.Bits.{bitOr};
+ghost use Rattle.paths.specs.Flags.{on, Path, rowOn, walk};
+ghost use Rattle.paths.specs.Words.{expiredAt, rowAt, Own, Worded};
+ghost use mathlib.Core.List.{List};
+ghost use Rattle.meaning.specs.Rules.{Rules};
 
 fn wide(x: u16) -> usize
     ensures { λ r. ⌜ r ≡ x ⌝ }
@@ -106,52 +112,129 @@ pub fn value(values: &[u32], i: usize) -> u32
     values[i]
 }
 
-// The timer of row i is number i + 1.
-fn is_expired(presets: &[u32], running: &[u8], timers: &[u32], i: usize) -> bool
-    requires { ⌜ i < 32 ⌝ }
-    ensures { λ r. ⌜ r ≡ expiredAt (now (presets .entry)) (now (running .entry)) (now (timers .entry)) i ⌝ }
+// ---- words: timers and outputs count from 1, and number n is the bit of weight 2^(n-1)
+
+// Whether number i + 1 is in the word.
+pub fn bit_at(w: u64, i: usize) -> bool
+    requires { ⌜ i < 64 ⌝ }
+    ensures { λ r. ⌜ r ≡ inputOn w (suc i) ⌝ }
 {
-    if flag(running, i + 1) {
+    (w >> i) % 2 == 1
+}
+
+// The word with number i + 1 in it.
+pub fn with_bit(w: u64, i: usize) -> u64
+    requires { ⌜ i < 64 ⌝ }
+    ensures { λ r. ⌜ r ≡ bitOr w (2 ^ i) ⌝ }
+{
+    w | (1u64 << i)
+}
+
+// The timer of row i is number i + 1.
+fn is_expired(presets: &[u32], running: u64, timers: &[u32], i: usize) -> bool
+    requires { ⌜ i < 32 ⌝ }
+    ensures { λ r. ⌜ r ≡ expiredAt (now (presets .entry)) running (now (timers .entry)) i ⌝ }
+{
+    if bit_at(running, i) {
         return value(presets, i) <= value(timers, i);
     }
     false
 }
 
-// "It is expired when it runs and is at least its preset."
-pub fn expired_of(presets: &[u32], running: &[u8], timers: &[u32]) -> [u8; 65]
-    ensures { λ r. ⌜ ((i : ℕ) → i < 32 → on r (suc i) ≡ expiredAt (now (presets .entry)) (now (running .entry)) (now (timers .entry)) i) ⌝ }
-{
-    let mut flags = [0u8; 65];
-    let mut i = 0;
-    while i < Chart::TIMERS {
-        let b = is_expired(presets, running, timers, i);
-        set_flag(&mut flags, i + 1, b);
-        i += 1;
-    }
-    flags
-}
-
-fn bit(b: bool) -> u64
-    ensures { λ r. ⌜ r ≡ cond b 1 0 ⌝ }
+fn with_bit_if(w: u64, i: usize, b: bool) -> u64
+    requires { ⌜ i < 64 ⌝ }
+    ensures { λ r. ⌜ ((j : ℕ) → inputOn r (suc j) ≡ (inputOn w (suc j) || (eqb i j && b))) ⌝ }
 {
     if b {
-        return 1;
+        return with_bit(w, i);
     }
-    0
+    w
 }
 
-// "Output words are made the same way": from the highest output down.
-pub fn word_of(flags: &[u8], count: u32) -> u64
-    ensures { λ r. ⌜ (count ≤ 64 → r ≡ wordOf (table (on (now (flags .entry))) 1 count)) ⌝ }
+// "It is expired when it runs and is at least its preset."
+pub fn expired_of(presets: &[u32], running: u64, timers: &[u32]) -> u64
+    ensures { λ r. ⌜ (length (now (presets .entry)) ≤ 32 → (i : ℕ) → i < length (now (presets .entry)) → inputOn r (suc i) ≡ expiredAt (now (presets .entry)) running (now (timers .entry)) i) ⌝ }
 {
-    if 64 < count {
-        return 0;
+    let mut word = 0u64;
+    if Chart::TIMERS < presets.len() {
+        return word;
     }
-    let mut o = count as usize;
-    let mut word: u64 = 0;
-    while 0 < o {
-        word = 2 * word + bit(flag(flags, o));
-        o -= 1;
+    let mut i = 0;
+    while i < presets.len() {
+        let b = is_expired(presets, running, timers, i);
+        word = with_bit_if(word, i, b);
+        i += 1;
     }
     word
+}
+
+pub fn word(words: &[u64], s: usize) -> u64
+    ensures { λ r. ⌜ r ≡ getD (now (words .entry)) s 0 ⌝ }
+{
+    if words.len() <= s {
+        return 0;
+    }
+    words[s]
+}
+
+fn add_pair(pairs: &[u16], i: usize, words: &mut [u64])
+    ensures { λ _. ⌜ ((s n : ℕ) → s < length (now (words .entry)) → n < 64
+        → inputOn (getD (now (words .exit)) s 0) (suc n) ≡ (inputOn (getD (now (words .entry)) s 0) (suc n) || rowAt (now (pairs .entry)) (suc n) s i)) ⌝ }
+{
+    let n = tables::pair_number(pairs, i);
+    let s = tables::pair_state(pairs, i);
+    if n < 1 {
+        return;
+    }
+    if 64 < n {
+        return;
+    }
+    if s < words.len() {
+        words[s] = with_bit(words[s], n - 1);
+    }
+}
+
+// Each state's own pairs.
+fn add_pairs(pairs: &[u16], words: &mut [u64])
+    ensures { λ _. ⌜ ((s n : ℕ) → s < length (now (words .entry)) → n < 64
+        → inputOn (getD (now (words .exit)) s 0) (suc n) ≡ (inputOn (getD (now (words .entry)) s 0) (suc n) || some (rowAt (now (pairs .entry)) (suc n) s) 0 (pairCount (now (pairs .entry))))) ⌝ }
+{
+    let mut i = 0;
+    while i < pairs.len() / 2 {
+        add_pair(pairs, i, words);
+        i += 1;
+    }
+}
+
+fn add_super(states: &[u16], s: usize, words: &mut [u64])
+    ensures { λ _. ⌜ ((c : Tables) → c .states ≡ now (states .entry) → superState c s < s
+        → now (words .exit) ≡ set (now (words .entry)) s (bitOr (getD (now (words .entry)) s 0) (getD (now (words .entry)) (superState c s) 0))) ⌝ }
+{
+    let a = tables::super_state(states, s);
+    if words.len() <= s {
+        return;
+    }
+    if a < s {
+        words[s] = words[s] | words[a];
+    }
+}
+
+// And those of the states above: "Every other super-state has a smaller number than its sub-state", so one way up suffices.
+fn add_supers(states: &[u16], words: &mut [u64])
+    ensures { λ _. ⌜ ((c : Tables) (ps : List ℕ) → c .states ≡ now (states .entry) → Rules c → stateCount c ≤ length (now (words .entry)) → Own c ps (now (words .entry)) → Worded c ps (now (words .exit))) ⌝ }
+{
+    let mut s = 1;
+    while s < states.len() / 2 {
+        add_super(states, s, words);
+        s += 1;
+    }
+}
+
+// Once for all scans: of each state, the timers or outputs that are paired with it or with a state above it.
+pub fn make_words(states: &[u16], pairs: &[u16], words: &mut [u64])
+    ensures { λ _. ⌜ ((c : Tables) → c .states ≡ now (states .entry) → Rules c → stateCount c ≤ length (now (words .entry)) → ((s : ℕ) → getD (now (words .entry)) s 0 ≡ 0)
+        → Worded c (now (pairs .entry)) (now (words .exit))) ⌝ }
+{
+    add_pairs(pairs, words);
+    add_supers(states, words);
 }

@@ -1,95 +1,84 @@
 use native.Mathlib.Omega.{arith}
-use mathlib.Core.Path.{_≡_, refl, _∙_}
-use Prim.Native.Nat.{_≤_, _-_}
-use lib.ListN.{length, getD, take}
-use lib.Seq.{take-all}
-use Rattle.meaning.specs.Tables.{Tables}
-use Rattle.meaning.specs.Rules.{Rules}
-use Rattle.meaning.specs.Machine.{step, trace, after, Valid}
-use Rattle.meaning.specs.MachineLaws.{valid-sound, step-valid, after-valid}
-use Rattle.machine.specs.Held.{Given, Scanned, held}
-use Rattle.machine.specs.StepLaws.{ran-shown}
+use Prim.Native.Nat.{_≤_}
+use lib.ListN.{replicate}
+use Rattle.meaning.specs.Tables.{stateCount, moveCount}
+use Rattle.tables.specs.Given.{state-count, move-count}
+use Rattle.machine.specs.Held.{Empty}
+use Rattle.machine.specs.StepLaws.{zeros}
+use borrow.Author.Needs.{needs}
 use Rattle.machine.proofs.run.Statement.{statement}
 use Rattle.machine.proofs.run.Tie as tie
 
-abbrev Inv-loop : tie.InvT-loop
-Inv-loop chart states moves presets timer-pairs output-pairs inputs leaves₀ outputs₀ now₀ i₀ leaves outputs now i =
-    (i ≤ length inputs) × (length leaves ≡ length leaves₀) × (length outputs ≡ length outputs₀)
-    × ((c : Tables) → Given c (chart .step) (chart .outputs) states moves presets timer-pairs output-pairs → Rules c → Valid c (held c (now₀ .memory) (now₀ .timers))
-    → length leaves₀ ≡ length inputs → length outputs₀ ≡ length inputs
-    → Scanned c (held c (now₀ .memory) (now₀ .timers)) (take i inputs) (held c (now .memory) (now .timers)) (take i leaves) (take i outputs))
+is-small-requires : tie.Need-is-small-requires
+is-small-requires c κs = search needs
 
-abbrev μ-loop : tie.MeasureT-loop
-μ-loop chart states moves presets timer-pairs output-pairs inputs leaves₀ outputs₀ now₀ i₀ leaves outputs now i = length inputs - i
+slice-aggregate-run-in : tie.Need-slice-aggregate-run-in
+slice-aggregate-run-in c = search needs
 
-loop-holds : tie.Need-loop-holds Inv-loop μ-loop
-unfolding trace after
-loop-holds c = (omega arith, refl, refl, λ c' g R v p q. record { state = refl; leaves = refl; outputs = refl })
+slice-aggregate-run-in-2 : tie.Need-slice-aggregate-run-in-2
+slice-aggregate-run-in-2 c = search needs
 
-mul-step : tie.Need-mul-step Inv-loop μ-loop
-mul-step c = omega arith
+slice-aggregate-run-in-3 : tie.Need-slice-aggregate-run-in-3
+slice-aggregate-run-in-3 c = search needs
 
-shared-slice-read-step : tie.Need-shared-slice-read-step Inv-loop μ-loop
-shared-slice-read-step c = omega arith
+run-in-requires : tie.Need-run-in-requires
+run-in-requires c κs = search needs
 
-step-requires : tie.Need-step-requires Inv-loop μ-loop
-step-requires c κs = tt
+same-length : tie.Need-same-length
+same-length c = search needs
 
-show-requires : tie.Need-show-requires Inv-loop μ-loop
-show-requires c κs = tt
+same-length-2 : tie.Need-same-length-2
+same-length-2 c = search needs
 
-add-i : tie.Need-add-i Inv-loop μ-loop
-add-i c = record { fits = (let h = c .before .before .before .before .before .before .before .before .before .loop-test .taken in omega (arith, c .before .before .before .before .before .before .before .before .before .before .before .before .before .before .before .before .before .before .good .1 .1 .1 .1 .1 .1 .1 .0)) }
+returns : tie.Need-returns
+returns c c' g R val p q =
+    let few = c .before .before .before .before .before .before .before .before .before .before .before .before .before .before .is-small .ensures (c .before .before .before .before .before .before .before .before .before .before .before .before .before .if1 .taken) in
+    let s : stateCount c' ≤ 32 = omega (arith, few .0, state-count c' _ (g .states)) in
+    let m : moveCount c' ≤ 32 = omega (arith, few .1, move-count c' _ (g .moves)) in
+    let E : Empty c' (replicate 32 0) (replicate 32 0) (replicate 128 0) = record { runsRoom = s; showsRoom = s; asksRoom = m; noRuns = zeros 32; noShows = zeros 32 } in
+    c .before .before .before .before .before .before .before .run-in .ensures c' g R E val p q
 
-loop-less : tie.Need-loop-less Inv-loop μ-loop
-loop-less c = omega arith
+slice-aggregate-run-in-4 : tie.Need-slice-aggregate-run-in-4
+slice-aggregate-run-in-4 c = search needs
 
-loop-again : tie.Need-loop-again Inv-loop μ-loop
-loop-again c =
-    let a = c .before .before .before .before .before .before .before .before .before .before .before .before .before .before .before .before .before .before .args in
-    let b = c .before .before .before .before .before .before .before .before .before .before .loop in
-    let i = c .before .before .before .before .before .before .before .before .before .loop-test .taken in (
-      omega (arith, i),
-      c .before .before .before .before .show .kept .1 .1 .1 .1 .1 .0 ∙ b .inv .1,
-      c .before .before .before .before .show .kept .1 .1 .1 .1 .1 .1 .0 ∙ b .inv .2,
-      λ c' g R v p q.
-          let r = b .inv .3 c' g R v p q in
-          let w : Valid c' (held c' (b .now .memory) (b .now .timers)) = rw (r .state) (after-valid c' R (take (b .i) (a .inputs .now)) _ v) in
-          let t = c .before .before .before .before .before .before .before .step .ensures c' (g .step) (g .states) (g .moves) (g .presets) (g .timerPairs) R w in
-          let u : Valid c' (held c' (c .before .before .before .before .before .before .before .step .result .memory) (c .before .before .before .before .before .before .before .step .result .timers)) = rw t (step-valid c' R _ _ w) in
-          let o = c .before .before .before .before .show .ensures c' (g .states) (g .outputPairs) (g .outputs) R (valid-sound c' R _ u) in
-          ran-shown c' (held c' (a .m .memory) (a .m .timers)) (a .inputs .now) (b .leaves) (b .outputs) (c .before .before .before .before .show .last .1 .1 .1 .1 .1 .0) (c .before .before .before .before .show .last .1 .1 .1 .1 .1 .1 .0)
-          (b .now .memory) (b .now .timers) (c .before .before .before .before .before .before .before .step .result .memory) (c .before .before .before .before .before .before .before .step .result .timers) (b .i) (getD (a .inputs .now) (b .i) 0) refl i
-          (omega (arith, b .inv .1, p, i)) (omega (arith, b .inv .2, q, i)) r t (o .0) (o .1),
-    )
+slice-aggregate-run-in-5 : tie.Need-slice-aggregate-run-in-5
+slice-aggregate-run-in-5 c = search needs
 
-same-length : tie.Need-same-length Inv-loop μ-loop
-same-length c = c .before .loop .inv .1
+slice-aggregate-run-in-6 : tie.Need-slice-aggregate-run-in-6
+slice-aggregate-run-in-6 c = search needs
 
-same-length-2 : tie.Need-same-length-2 Inv-loop μ-loop
-same-length-2 c = c .before .loop .inv .2
+run-in-requires-2 : tie.Need-run-in-requires-2
+run-in-requires-2 c κs = search needs
 
-returns : tie.Need-returns Inv-loop μ-loop
-returns c c' g R v p q =
-    let b = c .before .loop in
-    let a = c .before .before .before .before .before .before .before .before .before .args in
-    let n : length (a .inputs .now) ≤ b .i = omega arith in
-    rw (take-all (b .i) (a .inputs .now) n, take-all (b .i) (b .leaves) (omega (arith, b .inv .1)), take-all (b .i) (b .outputs) (omega (arith, b .inv .2))) at (b .inv .3 c' g R v p q)
+same-length-3 : tie.Need-same-length-3
+same-length-3 c = search needs
+
+same-length-4 : tie.Need-same-length-4
+same-length-4 c = search needs
+
+returns-2 : tie.Need-returns-2
+returns-2 c c' g R val p q =
+    let s : stateCount c' ≤ 256 = R .size .fewStates in
+    let m : moveCount c' ≤ 512 = R .size .fewMoves in
+    let E : Empty c' (replicate 256 0) (replicate 256 0) (replicate 2048 0) = record { runsRoom = s; showsRoom = s; asksRoom = m; noRuns = zeros 256; noShows = zeros 256 } in
+    c .before .before .before .before .before .before .before .run-in2 .ensures c' g R E val p q
 
 pub run-spec : {M : Type 1} → statement M
 run-spec =
     tie.close
     (tie.spec
-    Inv-loop
-    μ-loop
-    loop-holds
-    mul-step
-    shared-slice-read-step
-    step-requires
-    show-requires
-    add-i
-    loop-less
-    loop-again
+    is-small-requires
+    slice-aggregate-run-in
+    slice-aggregate-run-in-2
+    slice-aggregate-run-in-3
+    run-in-requires
     same-length
     same-length-2
-    returns)
+    returns
+    slice-aggregate-run-in-4
+    slice-aggregate-run-in-5
+    slice-aggregate-run-in-6
+    run-in-requires-2
+    same-length-3
+    same-length-4
+    returns-2)

@@ -1,50 +1,37 @@
-use borrow.Author.Needs.{needs}
 use native.Mathlib.Omega.{arith}
-use mathlib.Core.Path.{_∙_}
-use Prim.Native.Nat.{_<_}
-use Rattle.paths.specs.FlagsLaws.{walk-active, leaf-known}
+use mathlib.Core.Path.{_≡_, ap, _∙_}
+use lib.ListN.{set}
+use Rattle.meaning.specs.Machine.{seenAt}
+use Rattle.paths.specs.WordsLaws.{word-seen}
+use borrow.Author.Needs.{needs}
 use Rattle.machine.proofs.show.Statement.{statement}
 use Rattle.machine.proofs.show.Tie as tie
-
-slice-aggregate-active-leaf : tie.Need-slice-aggregate-active-leaf
-slice-aggregate-active-leaf c = search needs
-
-active-leaf-requires : tie.Need-active-leaf-requires
-active-leaf-requires c κs = search needs
 
 remember-requires : tie.Need-remember-requires
 remember-requires c κs = search needs
 
-outputs-of-requires : tie.Need-outputs-of-requires
-outputs-of-requires c κs = search needs
+word-requires : tie.Need-word-requires
+word-requires c κs = search needs
 
 put-word-requires : tie.Need-put-word-requires
 put-word-requires c κs = search needs
 
 same-length : tie.Need-same-length
-same-length c = c .before .before .before .before .before .before .before .remember .kept .0
+same-length c = search needs
 
 same-length-2 : tie.Need-same-length-2
-same-length-2 c = c .before .before .put-word .kept .0
+same-length-2 c = search needs
 
 returns : tie.Need-returns
-returns c c' e p n R S =
-    let a = c .before .before .before .before .before .before .before .before .before .before .before .before .before .before .before .before .args in
-    let l = c .before .before .before .before .before .before .before .before .before .active-leaf .ensures ∙ walk-active c' R (a .m .memory) S in
-    let few : c .before .before .before .before .before .before .before .before .before .active-leaf .result < 65536 = omega (arith, l, leaf-known c' R (a .m .memory) S, R .size .fewStates) in (
-      rw (← l) (c .before .before .before .before .before .before .before .remember .ensures few),
-      rw (← l, ← c .before .before .before .outputs-of .ensures c' e p n R) (c .before .before .put-word .ensures),
+returns c c' R W h =
+    let a = c .before .before .before .before .before .before .before .before .before .before .before .before .args in
+    let w = c .before .before .before .word in
+    let s : w .result ≡ seenAt c' (a .l) .outputs = unfold seenAt in (word-seen c' R (a .l) (w .result) (w .ok) (λ n z. rw (w .ensures) (W (a .l) n h z))) in (
+      c .before .before .before .before .before .before .before .remember .ensures (omega (arith, h, R .size .fewStates)),
+      c .before .before .put-word .ensures ∙ ap (set (a .outputs .now) (a .i)) s,
     )
 
 pub show-spec : {M : Type 1} → statement M
 show-spec =
     tie.close
-    (tie.spec
-    slice-aggregate-active-leaf
-    active-leaf-requires
-    remember-requires
-    outputs-of-requires
-    put-word-requires
-    same-length
-    same-length-2
-    returns)
+    (tie.spec remember-requires word-requires put-word-requires same-length same-length-2 returns)

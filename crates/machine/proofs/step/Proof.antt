@@ -1,89 +1,60 @@
-use borrow.Author.Needs.{needs}
 use native.Mathlib.Omega.{arith}
-use mathlib.Core.Path.{_≡_, sym}
 use Prim.Native.Nat.{_≤_}
-use lib.ListN.{length, length-take}
-use Rattle.meaning.specs.Tables.{stateCount}
-use Rattle.meaning.specs.Machine.{timed}
-use Rattle.meaning.specs.MachineLaws.{valid-sound}
-use Rattle.machine.specs.Held.{held}
-use Rattle.machine.specs.StepLaws.{step-held}
+use lib.ListN.{replicate}
+use Rattle.meaning.specs.Tables.{stateCount, moveCount}
+use Rattle.tables.specs.Given.{state-count, move-count}
+use Rattle.machine.specs.Held.{Empty}
+use Rattle.machine.specs.StepLaws.{zeros}
+use borrow.Author.Needs.{needs}
 use Rattle.machine.proofs.step.Statement.{statement}
 use Rattle.machine.proofs.step.Tie as tie
 
--- the arrays of the state are whole
-timers-long : (c : tie.Start) → length (c .args .m .timers) ≡ 32
-timers-long c = search needs
+is-small-requires : tie.Need-is-small-requires
+is-small-requires c κs = search needs
 
-slice-aggregate-running : tie.Need-slice-aggregate-running
-slice-aggregate-running c = search needs
+slice-aggregate-step-in : tie.Need-slice-aggregate-step-in
+slice-aggregate-step-in c = search needs
 
-running-requires : tie.Need-running-requires
-running-requires c κs = search needs
+slice-aggregate-step-in-2 : tie.Need-slice-aggregate-step-in-2
+slice-aggregate-step-in-2 c = search needs
 
-slice-aggregate-choose : tie.Need-slice-aggregate-choose
-slice-aggregate-choose c = search needs
-
-slice-aggregate-choose-2 : tie.Need-slice-aggregate-choose-2
-slice-aggregate-choose-2 c = search needs
-
-slice-aggregate-choose-3 : tie.Need-slice-aggregate-choose-3
-slice-aggregate-choose-3 c = search needs
-
-choose-requires : tie.Need-choose-requires
-choose-requires c κs = search needs
-
-slice-aggregate-enter : tie.Need-slice-aggregate-enter
-slice-aggregate-enter c = search needs
-
-enter-requires : tie.Need-enter-requires
-enter-requires c κs = search needs
-
-slice-aggregate-running-2 : tie.Need-slice-aggregate-running-2
-slice-aggregate-running-2 c = search needs
-
-running-requires-2 : tie.Need-running-requires-2
-running-requires-2 c κs = search needs
-
-slice-aggregate-timed : tie.Need-slice-aggregate-timed
-slice-aggregate-timed c = search needs
-
-slice-aggregate-timed-2 : tie.Need-slice-aggregate-timed-2
-slice-aggregate-timed-2 c = search needs
-
-slice-aggregate-timed-3 : tie.Need-slice-aggregate-timed-3
-slice-aggregate-timed-3 c = sym (timers-long (c .before .before .before .before .before .before .before .before .before .before .before .before .before .before .before .before .before .before .before))
-
-timed-requires : tie.Need-timed-requires
-timed-requires c κs = search needs
+step-in-requires : tie.Need-step-in-requires
+step-in-requires c κs = search needs
 
 returns : tie.Need-returns
 returns c c' d e f g p R val =
-    let a = c .before .before .before .before .before .before .before .before .before .before .before .before .before .before .before .before .before .before .before .before .args in
-    let S = valid-sound c' R (held c' (a .m .memory) (a .m .timers)) val in
-    let old = c .before .before .before .before .before .before .before .before .before .before .before .before .before .running .ensures c' e p R S in
-    let long : stateCount c' ≤ length (a .m .memory) = omega (arith, S .entries, length-take (stateCount c') (a .m .memory)) in
-    let full : length (c .timed .result) ≡ 32 = search needs in
-    step-held c' R (a .x) (a .m .memory) (a .m .timers) (c .before .before .before .before .before .before .before .enter .last .1 .1 .1 .0) (c .timed .result) (c .before .before .before .before .before .before .before .before .before .choose .result) (c .before .before .before .before .before .before .before .before .before .before .before .before .before .running .result) (c .before .before .before .before .running2 .result) val full
-    old (c .before .before .before .before .before .before .before .before .before .choose .ensures c' e f g R S old) (c .before .before .before .before .before .before .before .enter .ensures c' e f R long) (λ T. c .before .before .before .before .running2 .ensures c' e p R T)
-    (rw (d, g) (c .timed .ensures (let h = R .size .someStep in omega (arith, d))))
+    let few = c .before .before .before .before .before .before .is-small .ensures (c .before .before .before .before .before .if1 .taken) in
+    let s : stateCount c' ≤ 32 = omega (arith, few .0, state-count c' _ e) in
+    let m : moveCount c' ≤ 32 = omega (arith, few .1, move-count c' _ f) in
+    let E : Empty c' (replicate 32 0) (replicate 32 0) (replicate 128 0) = record { runsRoom = s; showsRoom = s; asksRoom = m; noRuns = zeros 32; noShows = zeros 32 } in
+    c .before .before .step-in .ensures c' d e f g p R E val
+
+slice-aggregate-step-in-3 : tie.Need-slice-aggregate-step-in-3
+slice-aggregate-step-in-3 c = search needs
+
+slice-aggregate-step-in-4 : tie.Need-slice-aggregate-step-in-4
+slice-aggregate-step-in-4 c = search needs
+
+step-in-requires-2 : tie.Need-step-in-requires-2
+step-in-requires-2 c κs = search needs
+
+returns-2 : tie.Need-returns-2
+returns-2 c c' d e f g p R val =
+    let s : stateCount c' ≤ 256 = R .size .fewStates in
+    let m : moveCount c' ≤ 512 = R .size .fewMoves in
+    let E : Empty c' (replicate 256 0) (replicate 256 0) (replicate 2048 0) = record { runsRoom = s; showsRoom = s; asksRoom = m; noRuns = zeros 256; noShows = zeros 256 } in
+    c .before .before .step-in2 .ensures c' d e f g p R E val
 
 pub step-spec : {M : Type 1} → statement M
 step-spec =
     tie.close
     (tie.spec
-    slice-aggregate-running
-    running-requires
-    slice-aggregate-choose
-    slice-aggregate-choose-2
-    slice-aggregate-choose-3
-    choose-requires
-    slice-aggregate-enter
-    enter-requires
-    slice-aggregate-running-2
-    running-requires-2
-    slice-aggregate-timed
-    slice-aggregate-timed-2
-    slice-aggregate-timed-3
-    timed-requires
-    returns)
+    is-small-requires
+    slice-aggregate-step-in
+    slice-aggregate-step-in-2
+    step-in-requires
+    returns
+    slice-aggregate-step-in-3
+    slice-aggregate-step-in-4
+    step-in-requires-2
+    returns-2)

@@ -1,54 +1,96 @@
 use native.Mathlib.Omega.{arith}
-use mathlib.Core.Path.{_≡_, sym, _∙_}
-use mathlib.Core.Bool.{false}
-use Prim.Native.Nat.{ℕ, _≤_, _<_, _-_, _/_}
+use native.Mathlib.Decide.{decLe}
+use mathlib.Core.Path.{_≡_, refl, ap, sym, _∙_}
+use Prim.Native.Nat.{ℕ, suc, _≤_, _<_, _-_, _/_}
 use lib.ListN.{length}
 use borrow.Author.Count.{below-more}
-use Rattle.meaning.specs.RowsLaws.{least-at, least-none}
+use native.Mathlib.Numerals.{add-one}
 use Rattle.meaning.specs.Tables.{Tables, moveCount}
-use Rattle.meaning.specs.Machine.{expired}
-use Rattle.moving.specs.Moves.{enabledOn, read}
+use Rattle.meaning.specs.Hierarchy.{up}
+use Rattle.meaning.specs.Rules.{Rules}
+use Rattle.meaning.specs.TreeLaws.{up-le}
 use Rattle.tables.specs.Given.{move-count}
+use Rattle.moving.specs.Moves.{read, AskedTo, lastHolding, LinkedTo}
+use Rattle.moving.specs.LinkLaws.{root-stays, found-chosen, none-on-path}
 use Rattle.moving.proofs.chosen.Statement.{statement}
 use Rattle.moving.proofs.chosen.Tie as tie
 
 abbrev Inv-loop : tie.InvT-loop
-Inv-loop moves path x expired i₀ i = (i ≤ length moves / 11) × ((c : Tables) → c .moves ≡ moves → (k : ℕ) → k < i → enabledOn c path (read x expired) k ≡ false)
+Inv-loop states moves links asks l x y s₀ k₀ s k = (k ≤ 9) × ((c : Tables) → c .states ≡ states → Rules c → LinkedTo c (moveCount c) links → AskedTo c (moveCount c) asks → moveCount c ≤ length asks / 4 → l < 256
+    → (s ≡ up c k l) × ((m : ℕ) → m < k → lastHolding c (read x y) (up c m l) (moveCount c) ≡ 0))
 
 abbrev μ-loop : tie.MeasureT-loop
-μ-loop moves path x expired i₀ i = length moves / 11 - i
+μ-loop states moves links asks l x y s₀ k₀ s k = 9 - k
 
 loop-holds : tie.Need-loop-holds Inv-loop μ-loop
-loop-holds c = (omega arith, λ c' e k h. absurd (omega arith))
+unfolding up
+loop-holds c = (omega arith, λ c' e R L A h k. (refl, λ m z. absurd (omega arith)))
 
-is-enabled-requires : tie.Need-is-enabled-requires Inv-loop μ-loop
-is-enabled-requires c κs = tt
+chosen-from-requires : tie.Need-chosen-from-requires Inv-loop μ-loop
+chosen-from-requires c κs = tt
+
+sub-result : tie.Need-sub-result Inv-loop μ-loop
+sub-result c = omega arith
 
 returns : tie.Need-returns Inv-loop μ-loop
-returns c c' e =
-    let a = c .before .before .before .before .before .before .args in
+returns c c' e f R L A h k =
+    let a = c .before .before .before .before .before .before .before .args in
     let b = c .before .before .before .loop in
-    sym (least-at (enabledOn c' (a .path .now) (read (a .x) (a .expired .now))) 0 (moveCount c') (b .i) (omega arith) (omega (arith, move-count c' _ e))
-    (sym (c .before .is-enabled .ensures c' e) ∙ c .if1 .taken) (λ j p q. b .inv .1 c' e j q))
+    let v = read (a .x) (a .y) in
+    let r = b .inv .1 c' e R L A h k in
+    let low : b .s < 256 = omega (arith, r .0, up-le c' R (b .k) (a .l), k) in
+    let j = c .before .chosen-from .result in
+    let z : j ≡ suc (j - 1) = omega arith in
+    found-chosen c' v R (a .l) (b .k) (j - 1) (omega arith) (ap (λ s. lastHolding c' v s (moveCount c')) (sym (r .0)) ∙ sym (c .before .chosen-from .ensures c' R L A h low) ∙ z)
 
-add-i : tie.Need-add-i Inv-loop μ-loop
-add-i c = omega arith
+returns-2 : tie.Need-returns-2 Inv-loop μ-loop
+returns-2 c c' e f R L A h k =
+    let a = c .before .before .before .before .before .before .before .before .args in
+    let b = c .before .before .before .before .loop in
+    let v = read (a .x) (a .y) in
+    let r = b .inv .1 c' e R L A h k in
+    let low : b .s < 256 = omega (arith, r .0, up-le c' R (b .k) (a .l), k) in
+    let j = c .before .before .chosen-from .result in
+    let z : j ≡ 0 = omega arith in
+    let here : lastHolding c' v (b .s) (moveCount c') ≡ 0 = sym (c .before .before .chosen-from .ensures c' R L A h low) ∙ z in
+    sym (move-count c' _ f) ∙ none-on-path c' v (a .l) (λ m q. elim (decLe (suc m) (b .k)) [
+      | yes y ↦ r .1 m y
+      | no y ↦ ap (λ s. lastHolding c' v s (moveCount c')) (root-stays c' R (b .k) m (a .l) (sym (r .0) ∙ c .if2 .taken) (omega arith) ∙ sym (c .if2 .taken)) ∙ here
+    ])
+
+super-state-requires : tie.Need-super-state-requires Inv-loop μ-loop
+super-state-requires c κs = tt
+
+add-k : tie.Need-add-k Inv-loop μ-loop
+add-k c = omega arith
 
 loop-less : tie.Need-loop-less Inv-loop μ-loop
 loop-less c = omega arith
 
 loop-again : tie.Need-loop-again Inv-loop μ-loop
-loop-again c =
-    let a = c .before .before .before .before .before .before .args in
-    let b = c .before .before .before .loop in
-    (omega arith, λ c' e. below-more (λ k. enabledOn c' (a .path .now) (read (a .x) (a .expired .now)) k ≡ false) (b .i) (b .inv .1 c' e) (sym (c .before .is-enabled .ensures c' e) ∙ c .if1 .left))
+unfolding up
+loop-again c = (
+  omega arith,
+  λ c' e R L A h k.
+      let a = c .before .before .before .before .before .before .before .before .before .args in
+      let b = c .before .before .before .before .before .loop in
+      let v = read (a .x) (a .y) in
+      let r = b .inv .1 c' e R L A h k in
+      let low : b .s < 256 = omega (arith, r .0, up-le c' R (b .k) (a .l), k) in
+      let j = c .before .before .before .chosen-from .result in
+      let z : j ≡ 0 = omega arith in
+      let here : lastHolding c' v (b .s) (moveCount c') ≡ 0 = sym (c .before .before .before .chosen-from .ensures c' R L A h low) ∙ z in (
+        rw (add-one, ← r .0) (c .super-state .ensures c' e),
+        below-more (λ m. lastHolding c' v (up c' m (a .l)) (moveCount c') ≡ 0) (b .k) (r .1) (ap (λ s. lastHolding c' v s (moveCount c')) (sym (r .0)) ∙ here),
+      ),
+)
 
-returns-2 : tie.Need-returns-2 Inv-loop μ-loop
-returns-2 c c' e =
-    let a = c .before .before .before .before .args in
+returns-3 : tie.Need-returns-3 Inv-loop μ-loop
+returns-3 c c' e f R L A h k =
+    let a = c .before .before .before .before .before .args in
     let b = c .before .loop in
-    let n = move-count c' _ e in
-    sym (least-none (enabledOn c' (a .path .now) (read (a .x) (a .expired .now))) 0 (moveCount c') (λ k p q. b .inv .1 c' e k (omega arith)) ∙ omega arith)
+    let r = b .inv .1 c' e R L A h k in
+    sym (move-count c' _ f) ∙ none-on-path c' (read (a .x) (a .y)) (a .l) (λ m q. r .1 m (omega arith))
 
 pub chosen-spec : {M : Type 1} → statement M
 chosen-spec =
@@ -57,9 +99,12 @@ chosen-spec =
     Inv-loop
     μ-loop
     loop-holds
-    is-enabled-requires
+    chosen-from-requires
+    sub-result
     returns
-    add-i
+    returns-2
+    super-state-requires
+    add-k
     loop-less
     loop-again
-    returns-2)
+    returns-3)

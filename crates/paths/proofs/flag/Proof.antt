@@ -1,7 +1,6 @@
 use borrow.Author.Needs.{needs}
 use native.Mathlib.Omega.{arith}
 use mathlib.Core.Path.{ap, sym}
-use mathlib.Core.List.{List}
 use lib.ListN.{List·getD-eq-default}
 use lib.Dec.{eqb}
 use Rattle.paths.proofs.flag.Statement.{statement}

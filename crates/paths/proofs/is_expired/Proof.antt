@@ -1,17 +1,13 @@
-use borrow.Author.Needs.{needs}
 use mathlib.Core.Path.{_≡_, sym, _∙_}
 use mathlib.Core.Bool.{true, false}
 use Prim.Native.Nat.{suc}
-use native.Mathlib.Numerals.{add-one}
-use Rattle.paths.specs.Flags.{on}
+use Rattle.meaning.specs.Literals.{inputOn}
+use borrow.Author.Needs.{needs}
 use Rattle.paths.proofs.is_expired.Statement.{statement}
 use Rattle.paths.proofs.is_expired.Tie as tie
 
-add-flag : tie.Need-add-flag
-add-flag c = search needs
-
-flag-requires : tie.Need-flag-requires
-flag-requires c κs = search needs
+bit-at-requires : tie.Need-bit-at-requires
+bit-at-requires c κs = search needs
 
 value-requires : tie.Need-value-requires
 value-requires c κs = search needs
@@ -21,23 +17,16 @@ value-requires-2 c κs = search needs
 
 returns : tie.Need-returns
 returns c =
-    let a = c .before .before .before .before .before .before .before .args in
-    let f : on (a .running .now) (suc (a .i)) ≡ true = rw add-one at (sym (c .before .before .before .flag .ensures) ∙ c .before .before .if1 .taken) in
+    let a = c .before .before .before .before .before .before .args in
+    let f : inputOn (a .running) (suc (a .i)) ≡ true = sym (c .before .before .before .bit-at .ensures) ∙ c .before .before .if1 .taken in
     rw (f, ← c .before .value .ensures, ← c .value2 .ensures)
 
 returns-2 : tie.Need-returns-2
 returns-2 c =
-    let a = c .before .before .before .before .before .args in
-    let f : on (a .running .now) (suc (a .i)) ≡ false = rw add-one at (sym (c .before .flag .ensures) ∙ c .if1 .left) in
+    let a = c .before .before .before .before .args in
+    let f : inputOn (a .running) (suc (a .i)) ≡ false = sym (c .before .bit-at .ensures) ∙ c .if1 .left in
     rw f
 
 pub is-expired-spec : {M : Type 1} → statement M
 is-expired-spec =
-    tie.close
-    (tie.spec
-    add-flag
-    flag-requires
-    value-requires
-    value-requires-2
-    returns
-    returns-2)
+    tie.close (tie.spec bit-at-requires value-requires value-requires-2 returns returns-2)

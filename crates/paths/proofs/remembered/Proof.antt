@@ -1,7 +1,6 @@
 use borrow.Author.Needs.{needs}
 use native.Mathlib.Omega.{arith}
 use mathlib.Core.Path.{sym}
-use mathlib.Core.List.{List}
 use lib.ListN.{List·getD-eq-default}
 use Rattle.meaning.specs.Machine.{remembered}
 use Rattle.paths.proofs.remembered.Statement.{statement}

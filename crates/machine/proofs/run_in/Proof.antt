@@ -1,0 +1,87 @@
+use native.Mathlib.Omega.{arith}
+use mathlib.Core.Path.{sym, subst}
+use Rattle.paths.specs.Words.{Worded}
+use Rattle.machine.specs.Held.{Made}
+use Rattle.machine.specs.StepLaws.{longest-made, zeros}
+use borrow.Author.Needs.{needs}
+use Rattle.machine.proofs.run_in.Statement.{statement}
+use Rattle.machine.proofs.run_in.Tie as tie
+
+make-words-requires : tie.Need-make-words-requires
+make-words-requires c κs = search needs
+
+make-words-requires-2 : tie.Need-make-words-requires-2
+make-words-requires-2 c κs = search needs
+
+make-asks-requires : tie.Need-make-asks-requires
+make-asks-requires c κs = search needs
+
+slice-aggregate-make-links : tie.Need-slice-aggregate-make-links
+slice-aggregate-make-links c = search needs
+
+make-links-requires : tie.Need-make-links-requires
+make-links-requires c κs = search needs
+
+longest-of-requires : tie.Need-longest-of-requires
+longest-of-requires c κs = search needs
+
+slice-aggregate-run-made : tie.Need-slice-aggregate-run-made
+slice-aggregate-run-made c = search needs
+
+slice-aggregate-run-made-2 : tie.Need-slice-aggregate-run-made-2
+slice-aggregate-run-made-2 c = search needs
+
+run-made-requires : tie.Need-run-made-requires
+run-made-requires c κs = search needs
+
+same-length : tie.Need-same-length
+same-length c = c .before .before .before .before .before .before .before .before .before .before .before .before .before .before .before .before .before .before .before .before .before .before .before .before .before .before .make-words .kept .1 .1 .0
+
+same-length-2 : tie.Need-same-length-2
+same-length-2 c = search needs
+
+same-length-3 : tie.Need-same-length-3
+same-length-3 c = search needs
+
+same-length-4 : tie.Need-same-length-4
+same-length-4 c = search needs
+
+same-length-5 : tie.Need-same-length-5
+same-length-5 c = search needs
+
+returns : tie.Need-returns
+returns c c' g R E val p q =
+    let a = c .before .before .before .before .before .before .before .before .before .before .before .before .before .before .before .before .before .before .before .before .before .before .before .before .before .before .before .before .before .before .before .before .before .before .before .before .before .before .args in
+    let runs = c .before .before .before .before .before .before .before .before .before .before .before .before .before .before .before .before .before .before .before .before .before .before .before .before .before .before .make-words .last .1 .1 .0 in
+    let shows = c .before .before .before .before .before .before .before .before .before .before .before .before .before .before .before .before .before .before .before .before .before .before .make-words2 .last .1 .1 .0 in
+    let asks = c .before .before .before .before .before .before .before .before .before .before .before .before .before .before .before .before .before .before .make-asks .last .1 .0 in
+    let links = c .before .before .before .before .before .before .before .before .before .before .before .before .before .before .make-links .last .1 .0 in
+    let M : Made c' runs links asks (c .before .before .before .before .before .before .before .before .before .before .before .before .longest-of .result) = record {
+      running = subst (λ ps. Worded c' ps runs) (sym (g .timerPairs)) (c .before .before .before .before .before .before .before .before .before .before .before .before .before .before .before .before .before .before .before .before .before .before .before .before .before .before .make-words .ensures c' (g .states) R (E .runsRoom) (E .noRuns));
+      linked = c .before .before .before .before .before .before .before .before .before .before .before .before .before .before .make-links .ensures c' (g .moves) R (omega arith) (zeros 768);
+      asked = c .before .before .before .before .before .before .before .before .before .before .before .before .before .before .before .before .before .before .make-asks .ensures c' (g .moves) R (E .asksRoom);
+      room = rw (c .before .before .before .before .before .before .before .before .before .before .before .before .before .before .before .before .before .before .make-asks .kept .1 .0) (E .asksRoom);
+      longest = longest-made c' R (a .presets .now) (c .before .before .before .before .before .before .before .before .before .before .before .before .longest-of .result) (a .chart .step) (g .presets) (g .step) (c .before .before .before .before .before .before .before .before .before .before .before .before .longest-of .ensures);
+    } in
+    c .before .before .before .before .run-made .ensures c' (g .step) (g .states) (g .moves) (g .presets) R M
+    (subst (λ ps. Worded c' ps shows) (sym (g .outputPairs)) (c .before .before .before .before .before .before .before .before .before .before .before .before .before .before .before .before .before .before .before .before .before .before .make-words2 .ensures c' (g .states) R (E .showsRoom) (E .noShows))) val p q
+
+pub run-in-spec : {M : Type 1} → statement M
+run-in-spec =
+    tie.close
+    (tie.spec
+    make-words-requires
+    make-words-requires-2
+    make-asks-requires
+    slice-aggregate-make-links
+    make-links-requires
+    longest-of-requires
+    slice-aggregate-run-made
+    slice-aggregate-run-made-2
+    run-made-requires
+    same-length
+    same-length-2
+    same-length-3
+    same-length-4
+    same-length-5
+    returns)
