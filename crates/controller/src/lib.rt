@@ -9,7 +9,7 @@ ghost use mathlib.Core.Logic.{_↔_};
 ghost use Prim.Native.Nat.{_≤_};
 ghost use Rattle.controller.specs.Validity.{AreBits, InTime, ValidityOf};
 ghost use Rattle.meaning.specs.Programs.{carried, bytesFor};
-ghost use Rattle.controller.specs.Sizes.{bytesIn, bytesNamed, timeAfter, timeIn, SizesOf};
+ghost use Rattle.controller.specs.Sizes.{bytesIn, bytesNamed, timeAfter, timeIn, SizesOf, rungsIn, noRungs};
 
 // The bytes that an operand asks for: one more than the number of a flip-flop.
 fn bytes_for(o: Operand) -> usize
@@ -127,6 +127,14 @@ pub fn controller_size(words: &[u32]) -> Sizes
         blocks: count,
         times: times,
     }
+}
+
+// Each block's time alone.
+pub fn times_of(words: &[u32]) -> [u32; 32]
+    ensures { λ r. ⌜ r ≡ rungsIn (now (words .entry)) noRungs .times ⌝ }
+{
+    let asked = controller_size(words);
+    asked.times
 }
 
 // "byte not 0 or 1"

@@ -53,30 +53,28 @@ pub fn q_word(blocks: &[Block]) -> u64
     qs
 }
 
-// Each block has its own rung's time, which the words tell.
-fn also_in_time(words: &[u32], ok: bool, i: usize, b: Block) -> bool
-    ensures { λ r. ⌜ r ≡ (ok && inItsTime i b (rungsIn (now (words .entry)) noRungs .times)) ⌝ }
+fn also_in_time(times: [u32; 32], ok: bool, i: usize, b: Block) -> bool
+    ensures { λ r. ⌜ r ≡ (ok && inItsTime i b times) ⌝ }
 {
     let et = b.et;
     if ok {
         if i < 32 {
-            let asked = controller::controller_size(words);
-            let times = asked.times;
             return et <= times[i];
         }
     }
     false
 }
 
-// "block with ET above its rung's time"
+// "block with ET above its rung's time": the words tell the times of the rungs.
 pub fn in_time(blocks: &[Block], words: &[u32]) -> bool
     ensures { λ r. ⌜ r ≡ inTime 0 (now (blocks .entry)) (rungsIn (now (words .entry)) noRungs .times) Bool.true ⌝ }
 {
+    let times = controller::times_of(words);
     let mut ok = true;
     let mut i: usize = 0;
     while i < blocks.len() {
         let b = at(blocks, i);
-        ok = also_in_time(words, ok, i, b);
+        ok = also_in_time(times, ok, i, b);
         i += 1;
     }
     ok
@@ -119,14 +117,14 @@ pub fn run(
     ensures { λ r. ⌜ RowRun step (now (words .entry)) (now (inputs .entry)) (now (ff .entry)) (now (blocks .entry)) (now (results .entry)) (now (ff .exit)) (now (blocks .exit)) (now (results .exit))
         × (r ≡ length (now (inputs .entry))) ⌝ }
 {
-    let mut i: usize = 0;
-    while i < inputs.len() {
-        let x = input(inputs, i);
+    let mut n: usize = 0;
+    while n < inputs.len() {
+        let x = input(inputs, n);
         let w = scan(words, step, x, ff, blocks);
-        il::put_word(results, i, w);
-        i += 1;
+        il::put_word(results, n, w);
+        n += 1;
     }
-    i
+    n
 }
 
 fn input(inputs: &[u64], i: usize) -> u64

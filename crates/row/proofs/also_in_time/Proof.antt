@@ -6,35 +6,28 @@ use Rattle.row.proofs.also_in_time.Statement.{statement}
 use Rattle.row.proofs.also_in_time.Tie as tie
 use Rattle.row.proofs.also_in_time.Reads as reads
 use Rattle.row.proofs.also_in_time.Lts as lts
-use Rattle.controller.proofs.controller_size.Reads as controller-size-reads
 
--- src/lib.rt:63:17
-controller-size-requires : tie.Need-controller-size-requires
-controller-size-requires c κs = search needs
-
--- src/lib.rt:65:26
+-- src/lib.rt:62:26
 mul-result : tie.Need-mul-result
 mul-result c = search needs
 
--- src/lib.rt:65:26
+-- src/lib.rt:62:26
 array-read-result : tie.Need-array-read-result
 array-read-result c = search needs
 
--- src/lib.rt:65:13
+-- src/lib.rt:62:13
 returns : tie.Need-returns
 unfolding inItsTime
-returns c = rw (c .before .before .before .if1 .taken, lt-ltb (c .before .before .before .before .before .args .i) 32 (omega arith), c .before .controller-size .ensures .times)
+returns c = rw (c .before .if1 .taken, lt-ltb (c .before .before .args .i) 32 (omega arith))
 
--- src/lib.rt:57:1
+-- src/lib.rt:56:1
 returns-2 : tie.Need-returns-2
 unfolding inItsTime
-returns-2 c = rw (c .before .if1 .taken, le-ltb (c .before .before .before .args .i) 32 (omega arith))
+returns-2 c = rw (c .before .if1 .taken, le-ltb (c .before .before .args .i) 32 (omega arith))
 
--- src/lib.rt:57:1
+-- src/lib.rt:56:1
 returns-3 : tie.Need-returns-3
 returns-3 c = search needs
 
 pub also-in-time-spec : {M : Type 1} → statement M
-also-in-time-spec =
-    tie.close
-    (tie.spec controller-size-requires mul-result array-read-result returns returns-2 returns-3)
+also-in-time-spec = tie.close (tie.spec mul-result array-read-result returns returns-2 returns-3)
