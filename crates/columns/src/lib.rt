@@ -1,0 +1,108 @@
+// The numbers that the reader of records stores, each in the type of its table, and how many of them a table has.
+ghost use mathlib.Core.Path.{_≡_};
+ghost use mathlib.Core.List.{map};
+ghost use Prim.Native.Nat.{_*_, min};
+ghost use lib.ListN.{set};
+ghost use lib.Seq.{sets};
+ghost use Rattle.field.specs.Field.{signedOf};
+ghost use Rattle.columns.specs.Low.{low16, low32};
+
+fn low_16(x: u64) -> u16
+    ensures { λ r. ⌜ r ≡ low16 x ⌝ }
+{
+    (x % 65536) as u16
+}
+
+pub fn low_32(x: u64) -> u32
+    ensures { λ r. ⌜ r ≡ low32 x ⌝ }
+{
+    (x % 4294967296) as u32
+}
+
+fn store_16(to: &mut [u16], at: usize, v: u16)
+    ensures { λ _. ⌜ now (to .exit) ≡ set (now (to .entry)) at v ⌝ }
+{
+    if at < to.len() {
+        to[at] = v;
+    }
+}
+
+fn store_32(to: &mut [u32], at: usize, v: u32)
+    ensures { λ _. ⌜ now (to .exit) ≡ set (now (to .entry)) at v ⌝ }
+{
+    if at < to.len() {
+        to[at] = v;
+    }
+}
+
+fn store_signed(to: &mut [i16], at: usize, v: i16)
+    ensures { λ _. ⌜ now (to .exit) ≡ set (now (to .entry)) at v ⌝ }
+{
+    if at < to.len() {
+        to[at] = v;
+    }
+}
+
+// states.csv, timerpairs.csv, outputpairs.csv
+pub fn narrow_16(from: &[u64], to: &mut [u16])
+    ensures { λ _. ⌜ now (to .exit) ≡ sets (now (to .entry)) 0 (map low16 (now (from .entry))) ⌝ }
+{
+    let mut i = 0;
+    while i < from.len() {
+        store_16(to, i, low_16(from[i]));
+        i += 1;
+    }
+}
+
+// presets.csv
+pub fn narrow_32(from: &[u64], to: &mut [u32])
+    ensures { λ _. ⌜ now (to .exit) ≡ sets (now (to .entry)) 0 (map low32 (now (from .entry))) ⌝ }
+{
+    let mut i = 0;
+    while i < from.len() {
+        store_32(to, i, low_32(from[i]));
+        i += 1;
+    }
+}
+
+// moves.csv
+pub fn narrow_signed(from: &[u64], to: &mut [i16])
+    ensures { λ _. ⌜ now (to .exit) ≡ sets (now (to .entry)) 0 (map signedOf (now (from .entry))) ⌝ }
+{
+    let mut i = 0;
+    while i < from.len() {
+        store_signed(to, i, field::signed(from[i]));
+        i += 1;
+    }
+}
+
+fn smaller(a: usize, b: usize) -> usize
+    ensures { λ r. ⌜ r ≡ min a b ⌝ }
+{
+    if a < b { a } else { b }
+}
+
+// The numbers of so many rows of one, two or eleven, as far as there is room for them. No product wraps.
+pub fn ones(rows: usize, room: usize) -> usize
+    ensures { λ r. ⌜ r ≡ min rows room ⌝ }
+{
+    smaller(rows, room)
+}
+
+pub fn twos(rows: usize, room: usize) -> usize
+    ensures { λ r. ⌜ r ≡ min (2 * rows) room ⌝ }
+{
+    if room / 2 < rows {
+        return room;
+    }
+    smaller(2 * rows, room)
+}
+
+pub fn elevens(rows: usize, room: usize) -> usize
+    ensures { λ r. ⌜ r ≡ min (11 * rows) room ⌝ }
+{
+    if room / 11 < rows {
+        return room;
+    }
+    smaller(11 * rows, room)
+}

@@ -1,0 +1,4 @@
+pub mod Print
+pub mod Ran
+pub mod Lengths
+pub mod Prints

@@ -1,0 +1,60 @@
+use mathlib.Core.Path.{sym}
+use lib.Seq.{length-take-le}
+use borrow.Author.Needs.{needs}
+use Rattle.splicetuck.proofs.write_front.Statement.{statement}
+use Rattle.splicetuck.proofs.write_front.Tie as tie
+use Rattle.splicetuck.proofs.write_front.Reads as reads
+use Rattle.splicetuck.proofs.write_front.Lts as lts
+use Rattle.io.proofs.write_all.Reads as write-all-reads
+use Rattle.os.proofs.fail.Reads as fail-reads
+use Rattle.splicetuck.proofs.message.say.Reads as say-reads
+
+-- src/main.rt:104:22
+slice-aggregate-say : tie.Need-slice-aggregate-say
+slice-aggregate-say c = search needs
+
+-- src/main.rt:104:9
+say-requires : tie.Need-say-requires
+say-requires c κs = search needs
+
+-- src/main.rt:105:9
+returns : tie.Need-returns
+returns c = search needs
+
+-- src/main.rt:107:38
+slice-aggregate-write-all : tie.Need-slice-aggregate-write-all
+slice-aggregate-write-all c = sym (length-take-le _ _ (search needs))
+
+-- src/main.rt:107:9
+write-all-requires : tie.Need-write-all-requires
+write-all-requires c κs = search needs
+
+-- src/main.rt:108:18
+slice-aggregate-fail : tie.Need-slice-aggregate-fail
+slice-aggregate-fail c = search needs
+
+-- src/main.rt:108:9
+fail-requires : tie.Need-fail-requires
+fail-requires c κs = search needs
+
+-- src/main.rt:109:9
+returns-2 : tie.Need-returns-2
+returns-2 c = search needs
+
+-- src/main.rt:102:1
+returns-3 : tie.Need-returns-3
+returns-3 c = search needs
+
+pub write-front-spec : {M : Type 1} → statement M
+write-front-spec =
+    tie.close
+    (tie.spec
+    slice-aggregate-say
+    say-requires
+    returns
+    slice-aggregate-write-all
+    write-all-requires
+    slice-aggregate-fail
+    fail-requires
+    returns-2
+    returns-3)
