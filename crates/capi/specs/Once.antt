@@ -1,0 +1,120 @@
+-- No second answer of the calls for C: the library call has one outcome, and an outcome is told in one way.
+use mathlib.Core.Path.{_≡_, sym, _∙_, subst}
+use Prim.Native.Nat.{ℕ}
+use mathlib.Core.List.{List}
+use Rattle.meaning.specs.Tables.{Tables}
+use Rattle.meaning.specs.Refusals.{numberOf, placeOf}
+use Rattle.meaning.specs.Scan.{Controller as Lent}
+use Rattle.meaning.specs.declared.Verdict.the-variants as G
+use Rattle.lent.specs.declared.Ran.{Ran}
+use Rattle.lent.specs.declared.Ran.the-variants as R
+use Rattle.runs.specs.Runs.{ChartRan, one-run}
+use Rattle.runs.specs.Steps.{ChartStepped, one-step}
+use Rattle.runs.specs.declared.Stepped.{Stepped}
+use Rattle.writer.specs.declared.Written.{Written as Text}
+use Rattle.writer.specs.declared.Written.the-variants as T
+use Rattle.translate.specs.Texts.{ChartWritten, one-text}
+use Rattle.words.specs.Answers.{WordsWritten, words-written-same, SizesTold, sizes-told-same}
+use Rattle.words.specs.declared.Written.{Written}
+use Rattle.words.specs.declared.Written.the-variants as W
+use Rattle.words.specs.declared.Sizes.{Sizes}
+use Rattle.words.specs.declared.Sizes.the-variants as S
+use Rattle.reader.specs.Reads.{TextRead}
+use Rattle.reader.specs.ReadLaws.{text-read-once}
+use Rattle.reader.specs.declared.Answer.{Answer as ReadAnswer}
+use Rattle.reader.specs.declared.Answer.the-variants as D
+use Rattle.programs.specs.Runs.{ProgramRan, one-program-run, ProgramScanned, one-program-scan}
+use Rattle.programs.specs.declared.Ran.{Ran as ProgramAnswer}
+use Rattle.programs.specs.declared.Ran.the-variants as P
+use Rattle.programs.specs.declared.Scanned.{Scanned as ScanAnswer}
+use Rattle.programs.specs.declared.Scanned.the-variants as O
+use Rattle.whole.specs.WrittenRan.{WrittenRan, one-written-run}
+use Rattle.whole.specs.declared.Outcome.{Outcome}
+use Rattle.whole.specs.declared.Outcome.the-variants as K
+use Rattle.capi.specs.declared.Answer.{Answer}
+use Rattle.capi.specs.declared.Step.{Step}
+use Rattle.capi.specs.declared.Scan.{Scan}
+use Rattle.capi.specs.declared.Controller.{Controller}
+use Rattle.capi.specs.Answers.{Told, one-answer, RanTold, StepTold, one-scan-told, WrittenTold, SizesGiven, SizesTell, TextTold, ReadTold, ProgramTold, ScanTold, one-scan-answer, OutcomeTold}
+
+-- one outcome, told in one way
+same-told : {R A : Type 0} (T : R → A → Type 0) → ((r : R) (a b : A) → T r a → T r b → a ≡ b) → {r s : R} {a b : A} → r ≡ s → T r a → T s b → a ≡ b
+same-told T told {r} {s} {a} {b} e t u = told s a b (subst (λ z. T z a) e t) u
+
+-- ---- an outcome is told in one way
+
+ran-told : (r : Ran) (a b : Answer) → RanTold r a → RanTold r b → a ≡ b
+ran-told (R.Done n) a b = one-answer G.Accepted n a b
+ran-told (R.Refused q) a b = one-answer (G.Refused q) 0 a b
+
+written-told : (r : Written) (a b : Answer) → WrittenTold r a → WrittenTold r b → a ≡ b
+written-told (W.Wrote n) a b = one-answer G.Accepted n a b
+written-told (W.Refused q) a b = one-answer (G.Refused q) 0 a b
+
+text-told : (r : Text) (a b : Answer) → TextTold r a → TextTold r b → a ≡ b
+text-told (T.Wrote n) a b = one-answer G.Accepted n a b
+text-told (T.Refused q) a b = one-answer (G.Refused q) 0 a b
+
+read-told : (r : ReadAnswer) (a b : Answer) → ReadTold r a → ReadTold r b → a ≡ b
+read-told (D.Read n) a b = one-answer G.Accepted n a b
+read-told (D.Refused q) a b = one-answer (G.Refused q) 0 a b
+
+program-told : (r : ProgramAnswer) (a b : Answer) → ProgramTold r a → ProgramTold r b → a ≡ b
+program-told (P.Done n) a b = one-answer G.Accepted n a b
+program-told (P.Refused q) a b = one-answer (G.Refused q) 0 a b
+
+outcome-told : (r : Outcome) (a b : Answer) → OutcomeTold r a → OutcomeTold r b → a ≡ b
+outcome-told (K.Ran n m) a b = one-answer G.Accepted n a b
+outcome-told (K.Refused q) a b = one-answer (G.Refused q) 0 a b
+
+scan-told : (r : ScanAnswer) (a b : Scan) → ScanTold r a → ScanTold r b → a ≡ b
+scan-told (O.Outputs w) a b = one-scan-answer 0 0 w a b
+scan-told (O.Refused q) a b = one-scan-answer (numberOf q) (placeOf q) 0 a b
+
+same-sizes : (n p f b : ℕ) (x y : Controller) → SizesGiven n p f b x → SizesGiven n p f b y → x ≡ y
+same-sizes n p f b x y g h = λ i. record {
+  number = (g .number ∙ sym (h .number)) i;
+  place = (g .place ∙ sym (h .place)) i;
+  flips = (g .flips ∙ sym (h .flips)) i;
+  blocks = (g .blocks ∙ sym (h .blocks)) i;
+}
+
+sizes-told : (r : Sizes) (a b : Controller) → SizesTell r a → SizesTell r b → a ≡ b
+sizes-told (S.Controller f n) a b = same-sizes 0 0 f n a b
+sizes-told (S.Refused q) a b = same-sizes (numberOf q) (placeOf q) 0 0 a b
+
+-- ---- the calls
+
+pub one-run-for-c : {c : Tables} {xs l ls os l′ ls′ os′ l″ ls″ os″ : List ℕ} {a b : Answer}
+    → ((r : Ran) × ChartRan c xs l ls os r l′ ls′ os′ × RanTold r a) → ((r : Ran) × ChartRan c xs l ls os r l″ ls″ os″ × RanTold r b) → (a ≡ b) × (l′ ≡ l″) × (ls′ ≡ ls″) × (os′ ≡ os″)
+one-run-for-c {c} {xs} {l} {ls} {os} (r, p, t) (s, q, u) = let e = one-run c xs l ls os r s _ _ _ _ _ _ p q in (same-told RanTold ran-told (e .0) t u, e .1, e .2, e .3)
+
+pub one-step-for-c : {c : Tables} {x : ℕ} {l l′ l″ : List ℕ} {a b : Step}
+    → ((r : Stepped) × ChartStepped c x l r l′ × StepTold r a) → ((r : Stepped) × ChartStepped c x l r l″ × StepTold r b) → (a ≡ b) × (l′ ≡ l″)
+one-step-for-c {c} {x} {l} (r, p, t) (s, q, u) = let e = one-step c x l r s _ _ p q in (same-told StepTold one-scan-told (e .0) t u, e .1)
+
+pub one-text-for-c : {c : Tables} {l m n : List ℕ} {a b : Answer} → ((r : Text) × ChartWritten c l r m × TextTold r a) → ((r : Text) × ChartWritten c l r n × TextTold r b) → (a ≡ b) × (m ≡ n)
+one-text-for-c {c} {l} (r, p, t) (s, q, u) = let e = one-text c l r s _ _ p q in (same-told TextTold text-told (e .0) t u, e .1)
+
+pub one-writing-for-c : {ws l m n : List ℕ} {a b : Answer} → ((r : Written) × WordsWritten ws l r m × WrittenTold r a) → ((r : Written) × WordsWritten ws l r n × WrittenTold r b) → (a ≡ b) × (m ≡ n)
+one-writing-for-c (r, p, t) (s, q, u) = let e = words-written-same p q in (same-told WrittenTold written-told (e .0) t u, e .1)
+
+pub one-reading-for-c : {ts l m n : List ℕ} {a b : Answer} → ((r : ReadAnswer) × TextRead ts l r m × ReadTold r a) → ((r : ReadAnswer) × TextRead ts l r n × ReadTold r b) → (a ≡ b) × (m ≡ n)
+one-reading-for-c (r, p, t) (s, q, u) = let e = text-read-once p q in (same-told ReadTold read-told (e .0) t u, e .1)
+
+pub one-size-for-c : {ws : List ℕ} {a b : Controller} → ((r : Sizes) × SizesTold ws r × SizesTell r a) → ((r : Sizes) × SizesTold ws r × SizesTell r b) → a ≡ b
+one-size-for-c (r, p, t) (s, q, u) = same-told SizesTell sizes-told (sizes-told-same p q) t u
+
+pub one-program-for-c : {d : ℕ} {ws xs : List ℕ} {k k′ j : Lent} {l l′ m : List ℕ} {a b : Answer}
+    → ((r : ProgramAnswer) × ProgramRan d ws xs k l r k′ l′ × ProgramTold r a) → ((r : ProgramAnswer) × ProgramRan d ws xs k l r j m × ProgramTold r b) → (a ≡ b) × (k′ ≡ j) × (l′ ≡ m)
+one-program-for-c (r, p, t) (s, q, u) = let e = one-program-run p q in (same-told ProgramTold program-told (e .0) t u, e .1, e .2)
+
+pub one-scan-for-c : {d : ℕ} {ws : List ℕ} {x : ℕ} {k k′ j : Lent} {a b : Scan}
+    → ((r : ScanAnswer) × ProgramScanned d ws x k r k′ × ScanTold r a) → ((r : ScanAnswer) × ProgramScanned d ws x k r j × ScanTold r b) → (a ≡ b) × (k′ ≡ j)
+one-scan-for-c (r, p, t) (s, q, u) = let e = one-program-scan p q in (same-told ScanTold scan-told (e .0) t u, e .1)
+
+pub one-whole-for-c : {c : Tables} {xs l ws ls os l′ ws′ ls′ os′ l″ ws″ ls″ os″ : List ℕ} {a b : Answer}
+    → ((r : Outcome) × WrittenRan c xs l ws ls os r l′ ws′ ls′ os′ × OutcomeTold r a) → ((r : Outcome) × WrittenRan c xs l ws ls os r l″ ws″ ls″ os″ × OutcomeTold r b)
+    → (a ≡ b) × (l′ ≡ l″) × (ws′ ≡ ws″) × (ls′ ≡ ls″) × (os′ ≡ os″)
+one-whole-for-c {c} {xs} {l} {ws} {ls} {os} (r, p, t) (s, q, u) =
+    let e = one-written-run c xs l ws ls os r s _ _ _ _ _ _ _ _ p q in (same-told OutcomeTold outcome-told (e .0) t u, e .1, e .2, e .3, e .4)
