@@ -1,5 +1,6 @@
 /* Splicetuck for C: charts (state tables) to Instruction List, instruction words
- * to text and back, the run of a chart, and tables from files of records.
+ * to text and back, the run of a chart, of a program and of a chart's written
+ * text, and tables from files of records.
  *
  * Of every call:
  * - It can be made with any content of the lent slices; what is not right is
@@ -36,7 +37,7 @@ struct splicetuck_answer {
     uint64_t length;
 };
 
-/* The tables are lent to five calls, always as the same thirteen arguments:
+/* The tables are lent to six calls, always as the same thirteen arguments:
  * step          scan step in ms, 1 to 1,000
  * inputs        how many inputs, at most 64
  * outputs       how many outputs, at most 64
