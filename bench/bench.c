@@ -124,7 +124,6 @@ static struct answer their_run(void)
                                 leaves[1], scans, outputs[1], scans));
 }
 
-#ifdef SPLICETUCK_RUN_PROGRAM
 static uint8_t flip_flops[2][256];
 static struct splicetuck_block blocks[TIMERS];
 static struct ref_block ref_blocks[TIMERS];
@@ -147,7 +146,6 @@ static struct answer their_program(void)
                                   flip_flops_len, ref_blocks, blocks_len, inputs, scans,
                                   outputs[1], scans));
 }
-#endif
 
 static double now(void)
 {
@@ -267,7 +265,6 @@ static void runs(const char *name, call *f, call *g, size_t n)
     }
 }
 
-#ifdef SPLICETUCK_RUN_PROGRAM
 static void lend_program(void)
 {
     struct splicetuck_sizes s;
@@ -290,7 +287,41 @@ static void program_runs(size_t n)
         row(what, our_program, their_program);
     }
 }
-#endif
+
+/* Records: a file's bytes to its numbers. */
+static uint8_t csv[1 << 18];
+static size_t csv_len;
+static uint32_t csv_kind;
+static uint64_t numbers[2][8192];
+
+static struct answer our_records(void)
+{
+    return ours(splicetuck_read_records(csv_kind, csv, csv_len, numbers[0], 8192));
+}
+
+static struct answer their_records(void)
+{
+    return theirs(ref_read_records((enum ref_kind)csv_kind, csv, csv_len, numbers[1], 8192));
+}
+
+static void put_number(int64_t n, char after)
+{
+    csv_len += sprintf((char *)csv + csv_len, "%" PRId64 "%c", n, after);
+}
+
+static void records(const char *name, uint32_t kind)
+{
+    char what[80];
+    csv_kind = kind;
+    csv_len = 0;
+    lend(fill_widest);
+    for (size_t i = 0; kind == 2 && i < chart.moves_len; i++)
+        put_number(chart.moves[i], i % 11 == 10 ? '\n' : ',');
+    for (size_t i = 0; kind == 6 && i < 4096; i++)
+        put_number((int64_t)(inputs[i % MOST_SCANS] >> 1), '\n');
+    snprintf(what, sizeof what, "records, %s", name);
+    row(what, our_records, their_records);
+}
 
 /* One line of the growth table: the time of each size over that of the size
  * before it, for both sides. */
@@ -341,10 +372,8 @@ static void show_growth(void)
     growth("chart run, Lamp, by scans", lamp_scans, set_scans, our_run, their_run);
     lend(fill_widest);
     growth("chart run, widest, by scans", many, set_scans, our_run, their_run);
-#ifdef SPLICETUCK_RUN_PROGRAM
     lend_program();
     growth("program run, widest, by scans", many, set_scans, our_program, their_program);
-#endif
     growth("check, widest, by moves (pairs of moves)", moves, set_moves, our_check, their_check);
     growth("write, widest, by moves", moves, set_moves, our_write, their_write);
     lend(fill_widest);
@@ -360,12 +389,9 @@ int main(void)
     heading("Our time over that of the C reference (which clears only what the tables use):", "C us");
     each_chart("check", our_check, their_check);
     runs("chart run", our_run, their_run, 1000);
-#ifdef SPLICETUCK_RUN_PROGRAM
     program_runs(100);
-#else
-    printf("| program run: the library has no such call for C yet |  |  |  |\n");
-#endif
-    printf("| records: the library has no such call for C yet |  |  |  |\n");
+    records("moves.csv, widest", 2);
+    records("scans.csv, 4,096 scans", 6);
     heading("Over that of hand-made C (the reference looks lines up in tables of strings):", "C us");
     each_chart("write from tables", our_write, their_write);
     each_chart("write from words", our_write_words, their_write_words);
@@ -379,9 +405,7 @@ int main(void)
     row("read, corner", our_read, their_slow_read);
     heading("One scan by itself, which checks the tables each time:", "C us");
     runs("chart run", our_run, their_run, 1);
-#ifdef SPLICETUCK_RUN_PROGRAM
     program_runs(1);
-#endif
     show_growth();
     return 0;
 }
