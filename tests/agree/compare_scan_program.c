@@ -1,154 +1,47 @@
 /* splicetuck_scan_program against the reference. */
-#include "agree.h"
+#include "program.h"
 
-#include <stdlib.h>
-#include <string.h>
+static struct event events[] = {PROGRAM_EVENT_NAMES};
 
-enum { EXPIRED, GROWN, ON, SET };
-static struct event events[] = {
-    [EXPIRED] = {"blocks whose Q came on", 0},
-    [GROWN] = {"blocks whose ET grew with Q off", 0},
-    [ON] = {"output words other than 0", 0},
-    [SET] = {"flip-flops that were changed", 0},
-    {NULL, 0}
-};
-
-/* The slices of one case. The two kinds of block differ, so that the lent
- * blocks are no twin. */
-struct run {
-    uint32_t step;
-    struct list list;
-    struct controller first;
-    struct ref_block after[MOST_LENT_BLOCKS];
-    uint64_t input, output;
-    struct lent words, blocks;
-    struct twin flip_flops;
-};
-
-/* Random bytes stay where a block has no field. */
-static struct lent lend_blocks(const struct ref_block *from, size_t len)
+static uint64_t any_input(void)
 {
-    struct splicetuck_block blocks[MOST_LENT_BLOCKS];
-    any_bytes(blocks, sizeof blocks);
-    for (size_t i = 0; i < len; i++) {
-        blocks[i].on = from[i].in != 0;
-        blocks[i].pt = from[i].pt;
-        blocks[i].et = from[i].et;
-        blocks[i].q = from[i].q != 0;
-        blocks[i].last = from[i].last_in != 0;
-    }
-    return lend(blocks, len * sizeof blocks[0]);
-}
-
-static void make_run(struct run *r)
-{
-    r->step = any_step();
-    r->list = any_words(6);
-    any_controller(&r->list, r->step, &r->first);
-    memcpy(r->after, r->first.blocks, sizeof r->after);
     uint64_t inputs[MOST_SCANS];
-    r->input = any_inputs(inputs) > 0 ? inputs[0] : 0;
-    r->output = 0;
-    r->words = lend(r->list.words, r->list.len * sizeof *r->list.words);
-    r->flip_flops = lend_twice(r->first.flip_flops, r->first.flip_flops_len);
-    r->blocks = lend_blocks(r->first.blocks, r->first.blocks_len);
+    return any_inputs(inputs) > 0 ? inputs[0] : 0;
 }
 
-/* A bool is compared as the byte it is stored in: the product must not leave
- * another byte than 0 or 1 there. */
-static void expect_bool(const char *field, size_t block, const bool *got,
-                        uint8_t due)
+static void expect_scan(struct splicetuck_scan got, struct ref_answer due,
+                        uint64_t output)
 {
-    uint8_t byte;
-    memcpy(&byte, got, 1);
-    if (byte != due)
-        report("blocks[%zu].%s is %u, should be %u", block, field,
-               (unsigned)byte, (unsigned)due);
-}
-
-static void expect_time(const char *field, size_t block, uint32_t got,
-                        uint32_t due)
-{
-    if (got != due)
-        report("blocks[%zu].%s is %lu, should be %lu", block, field,
-               (unsigned long)got, (unsigned long)due);
-}
-
-/* After a refusal every byte counts; after scans those between the fields are
- * the product's own affair. */
-static void expect_blocks(const struct run *r, uint32_t number)
-{
-    const struct splicetuck_block *got = r->blocks.at;
-    if (number != REF_ACCEPTED) {
-        expect_kept("blocks", &r->blocks);
-        return;
-    }
-    for (size_t i = 0; i < r->first.blocks_len; i++) {
-        expect_bool("on", i, &got[i].on, r->after[i].in);
-        expect_time("pt", i, got[i].pt, r->after[i].pt);
-        expect_time("et", i, got[i].et, r->after[i].et);
-        expect_bool("q", i, &got[i].q, r->after[i].q);
-        expect_bool("last", i, &got[i].last, r->after[i].last_in);
-    }
-    expect_guards("blocks", &r->blocks);
-}
-
-static void show_run(const struct run *r)
-{
-    show_number("step", r->step);
-    show_u32("words", r->list.words, r->list.len);
-    show_u8("flip_flops", r->first.flip_flops, r->first.flip_flops_len);
-    show_blocks("blocks", r->first.blocks, r->first.blocks_len);
-    show_u64("word_in", &r->input, 1);
-}
-
-static void end_run(struct run *r)
-{
-    take_back(&r->words);
-    take_back(&r->blocks);
-    take_both_back(&r->flip_flops);
-    free(r->list.words);
-}
-
-static void count_events(const struct run *r)
-{
-    const uint8_t *flip_flops = r->flip_flops.reference;
-    for (size_t i = 0; i < r->first.blocks_len; i++) {
-        const struct ref_block *b = &r->after[i];
-        events[EXPIRED].times += b->q && !r->first.blocks[i].q;
-        events[GROWN].times += b->et > r->first.blocks[i].et && !b->q;
-    }
-    events[ON].times += r->output != 0;
-    for (size_t i = 0; i < r->first.flip_flops_len; i++)
-        events[SET].times += flip_flops[i] != r->first.flip_flops[i];
-}
-
-static uint32_t compare(void)
-{
-    struct run r;
-    make_run(&r);
-    struct ref_answer due = ref_program_run(
-        r.list.words, r.list.len, r.step, r.flip_flops.reference,
-        r.first.flip_flops_len, r.after, r.first.blocks_len, &r.input, 1,
-        &r.output, 1);
-    struct splicetuck_scan got = splicetuck_scan_program(
-        r.step, r.words.at, r.list.len, r.flip_flops.product.at,
-        r.first.flip_flops_len, r.blocks.at, r.first.blocks_len, r.input);
     if (got.number != due.number || got.place != due.place)
         report("the answer is %lu at %zu, should be %lu at %zu",
                (unsigned long)got.number, got.place,
                (unsigned long)due.number, due.place);
-    if (got.outputs != r.output)
+    if (got.outputs != output)
         report("the output word is %llu, should be %llu",
-               (unsigned long long)got.outputs,
-               (unsigned long long)r.output);
-    expect_same("flip_flops", &r.flip_flops);
-    expect_blocks(&r, due.number);
-    expect_kept("words", &r.words);
-    show_run(&r);
-    if (due.number == REF_ACCEPTED)
-        count_events(&r);
-    end_run(&r);
+               (unsigned long long)got.outputs, (unsigned long long)output);
+}
+
+static uint32_t compare(void)
+{
+    struct program p;
+    make_program(&p);
+    uint64_t input = any_input(), output = 0;
+    struct ref_answer due = ref_program_run(
+        p.list.words, p.list.len, p.step, p.flip_flops.reference,
+        p.first.flip_flops_len, p.after, p.first.blocks_len, &input, 1,
+        &output, 1);
+    expect_scan(splicetuck_scan_program(
+        p.step, p.words.at, p.list.len, p.flip_flops.product.at,
+        p.first.flip_flops_len, p.blocks.at, p.first.blocks_len, input), due,
+        output);
+    expect_program(&p, due.number);
+    show_program(&p);
+    show_u64("word_in", &input, 1);
+    if (due.number == REF_ACCEPTED) {
+        count_program(&p, events);
+        events[ON].times += output != 0;
+    }
+    end_program(&p);
     return due.number;
 }
 
