@@ -1,3 +1,4 @@
 pub mod Sent
 pub mod SentLaws
 pub mod GroupLaws
+pub mod Once

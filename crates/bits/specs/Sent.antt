@@ -2,10 +2,13 @@
 use mathlib.Core.Path.{_≡_}
 use mathlib.Core.Bool.{Bool, cond}
 use mathlib.Core.List.{List, [], _∷_, flatMap}
-use Prim.Native.Nat.{ℕ, _+_}
+use mathlib.Core.Logic.{_≢_}
+use Prim.Native.Nat.{ℕ, _+_, _≤_, _<_}
+use lib.ListN.{getD}
 use lib.IntN.{natAbs}
 use Rattle.meaning.specs.Rows.{table}
 use Rattle.meaning.specs.Tables.{Tables, literal}
+use Rattle.meaning.specs.Hierarchy.{up, depth}
 use Rattle.meaning.specs.Literals.{kindOf, wanted}
 use Rattle.meaning.specs.Rules.{Rules}
 use Rattle.meaning.specs.Programs.{Test, loadOf, andOf}
@@ -14,10 +17,10 @@ use Rattle.meaning.specs.declared.Operand.{Operand}
 use Rattle.meaning.specs.declared.Operand.the-variants.{Mx, True}
 use Rattle.meaning.specs.declared.Operator.{Operator}
 use Rattle.meaning.specs.declared.Operator.the-variants.{Ld, S, R}
-use Rattle.format.specs.Text.{line, operatorText}
+use Rattle.format.specs.Text.{bytes, line, operatorText}
 use Rattle.layout.specs.Laid.{LaidOut}
 use Rattle.layout.specs.declared.Layout.{Layout}
-use Rattle.lines.specs.Put.{Put}
+use Rattle.lines.specs.Fit.{Fit}
 use Rattle.bits.specs.declared.Way.{Way}
 use Rattle.bits.specs.declared.Way.the-variants.{First, More, Store}
 use Rattle.bits.specs.declared.Spot.{Spot}
@@ -35,6 +38,12 @@ operatorAt First t = loadOf t
 operatorAt More t = andOf t
 operatorAt Store t = cond (t .wanted) (S (t .operand)) (R (t .operand))
 
+-- its operator, up to the operand
+abbrev pub asked : Way → Bool → List ℕ
+asked First w = cond w (bytes "LD ") (bytes "LDN ")
+asked More w = cond w (bytes "AND ") (bytes "ANDN ")
+asked Store w = cond w (bytes "S ") (bytes "R ")
+
 abbrev pub next : Way → Way
 next First = More
 next More = More
@@ -49,7 +58,7 @@ after y [] = y
 after y (t ∷ ts) = after (next y) ts
 
 pub record Sent (l : List ℕ) (p : Spot) (ts : List Test) (m : List ℕ) (q : Spot) : Type 0 where
-  pub put : Put l (p .at) (lines (operatorsAt (p .way) ts)) m (q .at)
+  pub put : Fit l (p .at) (lines (operatorsAt (p .way) ts)) m (q .at)
   pub way : q .way ≡ after (p .way) ts
 
 -- "with no bits and no literals LD TRUE"
@@ -71,6 +80,19 @@ baseOf total Store = total
 -- the tests of the first n literal places of move i
 unfoldable pub literalsTo : Tables → ℕ → ℕ → List Test
 literalsTo c i n = flatMap (λ z. kindTest c (wanted z) (kindOf (natAbs z))) (table (literal c i) 0 n)
+
+-- a layout from its parts
+abbrev pub laid : List ℕ → List ℕ → List ℕ → ℕ → Layout
+laid f w k t = record { first = f; width = w; code = k; total = t }
+
+-- the first k states from s up, none of them the root, and the next, t
+abbrev pub Rises : Tables → ℕ → List ℕ → ℕ → ℕ → Type 0
+Rises c s ps k t = (t ≡ up c k s) × ((j : ℕ) → j < k → (getD ps j 0 ≡ up c j s) × (up c j s ≢ 0))
+
+-- the states from s up to the root, k of them below it
+pub record Risen (c : Tables) (s : ℕ) (ps : List ℕ) (k : ℕ) : Type 0 where
+  pub deep : k ≡ depth c s
+  pub path : (j : ℕ) → j ≤ k → getD ps j 0 ≡ up c j s
 
 -- tables with these states and this layout, that keep the rules
 pub record Drawn (c : Tables) (ss : List ℕ) (l : Layout) : Type 0 where

@@ -1,7 +1,7 @@
 -- Laws of Sent.antt.
 use mathlib.Core.Path.{_≡_, refl, sym, ap, _∙_, fun-ext}
 use mathlib.Core.Logic.{_≢_}
-use mathlib.Core.Bool.{Bool}
+use mathlib.Core.Bool.{Bool, true, false}
 use mathlib.Core.List.{List, [], _∷_, _++_, map, flatMap, append-nil}
 use Prim.Native.Nat.{ℕ, zero, suc, _+_, _-_, _^_, _/_, _%_, _≤_}
 use native.Mathlib.Nat.{zero-add, div-div-eq-div-mul, pow-succ'}
@@ -17,13 +17,14 @@ use Rattle.meaning.specs.Layout.{groupFirst, groupWidth, flipFlops, code}
 use Rattle.meaning.specs.Literals.{kindOf, wanted}
 use Rattle.meaning.specs.Programs.{Test, loadOf, andOf, chainOf}
 use Rattle.meaning.specs.Written.{bitsFrom, groupBits, pathBits, bitTest, stateTests, bitStore, kindTest, chain}
+use Rattle.meaning.specs.declared.Operand.{Operand}
 use Rattle.meaning.specs.declared.Operator.{Operator}
-use Rattle.format.specs.Text.{line, operatorText}
-use Rattle.lines.specs.Put.{Put, put-put, put-none}
+use Rattle.format.specs.Text.{line, operandText, operatorText}
+use Rattle.lines.specs.Fit.{Fit, fit-fit, fit-none}
 use Rattle.bits.specs.declared.Way.{Way}
 use Rattle.bits.specs.declared.Way.the-variants.{First, More, Store}
 use Rattle.bits.specs.declared.Spot.{Spot}
-use Rattle.bits.specs.Sent.{lines, test, operatorAt, next, operatorsAt, after, Sent, orTrue, bitAt, baseOf, literalsTo}
+use Rattle.bits.specs.Sent.{lines, test, operatorAt, asked, next, operatorsAt, after, Sent, orTrue, bitAt, baseOf, literalsTo}
 
 -- ---- lines
 
@@ -32,21 +33,21 @@ unfolding lines
 lines-append is js = flatMap-append _ is js
 
 -- two writers in a row
-pub put-lines : {l m n : List ℕ} {i j k : ℕ} (is js : List Operator) → Put l i (lines is) m j → Put m j (lines js) n k → Put l i (lines (is ++ js)) n k
-put-lines is js p q = rw (lines-append is js) (put-put p q)
+pub put-lines : {l m n : List ℕ} {i j k : ℕ} (is js : List Operator) → Fit l i (lines is) m j → Fit m j (lines js) n k → Fit l i (lines (is ++ js)) n k
+put-lines is js p q = rw (lines-append is js) (fit-fit p q)
 
 -- one line more in front
-pub put-cons : {l m n : List ℕ} {i j k : ℕ} (o : Operator) (is : List Operator) → Put l i (line (operatorText o)) m j → Put m j (lines is) n k → Put l i (lines (o ∷ is)) n k
+pub put-cons : {l m n : List ℕ} {i j k : ℕ} (o : Operator) (is : List Operator) → Fit l i (line (operatorText o)) m j → Fit m j (lines is) n k → Fit l i (lines (o ∷ is)) n k
 unfolding lines flatMap
-put-cons o is p q = put-put p q
+put-cons o is p q = fit-fit p q
 
-pub put-line : {l m : List ℕ} {i j : ℕ} (o : Operator) → Put l i (line (operatorText o)) m j → Put l i (lines (o ∷ [])) m j
+pub put-line : {l m : List ℕ} {i j : ℕ} (o : Operator) → Fit l i (line (operatorText o)) m j → Fit l i (lines (o ∷ [])) m j
 unfolding lines flatMap
 put-line o p = rw append-nil p
 
-pub put-nil : (l : List ℕ) (i : ℕ) → length l ≤ 18446744073709551615 → i ≤ 18446744073709551615 → Put l i (lines []) l i
+pub put-nil : (l : List ℕ) (i : ℕ) → length l ≤ 18446744073709551615 → i ≤ 18446744073709551615 → Fit l i (lines []) l i
 unfolding lines flatMap
-put-nil l i h g = put-none l i h g
+put-nil l i h g = fit-none l i h g
 
 -- ---- tests one after the other
 
@@ -66,9 +67,24 @@ sent-sent {p = p} {ts = ts} {us} x y = record {
   way = y .way ∙ ap (λ v. after v us) (x .way) ∙ sym (after-append (p .way) ts us);
 }
 
+asked-line : (y : Way) (w : Bool) (o : Operand) → line (operatorText (operatorAt y (test w o))) ≡ asked y w ++ line (operandText o)
+unfolding line operatorText loadOf andOf
+asked-line First true o = refl
+asked-line First false o = refl
+asked-line More true o = refl
+asked-line More false o = refl
+asked-line Store true o = refl
+asked-line Store false o = refl
+
+-- a test's operator, and the rest of its line
+pub one-put : {l m n : List ℕ} {i q r : ℕ} (y : Way) (w : Bool) (o : Operand) → Fit l i (asked y w) m q → Fit m q (line (operandText o)) n r
+    → Fit l i (lines (operatorsAt y (test w o ∷ []))) n r
+unfolding lines flatMap operatorsAt
+one-put y w o x z = rw append-nil (rw (asked-line y w o) (fit-fit x z))
+
 pub sent-none : (l : List ℕ) (p : Spot) → length l ≤ 18446744073709551615 → p .at ≤ 18446744073709551615 → Sent l p [] l p
 unfolding operatorsAt after lines flatMap
-sent-none l p h g = record { put = put-none l (p .at) h g; way = refl }
+sent-none l p h g = record { put = fit-none l (p .at) h g; way = refl }
 
 base-next : (b : ℕ) (y : Way) → baseOf b (next y) ≡ baseOf b y
 base-next b First = refl
@@ -98,7 +114,7 @@ chain-lines [] = refl
 chain-lines (t ∷ ts) = rw (after-more ts, more-and ts) (append-nil _)
 
 pub chain-put : {l m n : List ℕ} {q : Spot} {i r : ℕ} (ts : List Test)
-    → Sent l (record { at = i; way = First }) ts m q → Put m (q .at) (lines (orTrue (q .way))) n r → Put l i (lines (chainOf (chain ts))) n r
+    → Sent l (record { at = i; way = First }) ts m q → Fit m (q .at) (lines (orTrue (q .way))) n r → Fit l i (lines (chainOf (chain ts))) n r
 chain-put ts x y = rw (← chain-lines ts) (put-lines (operatorsAt First ts) (orTrue (after First ts)) (x .put) (rw (x .way) at y))
 
 -- ---- bits

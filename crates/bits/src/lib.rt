@@ -1,5 +1,4 @@
 // The lines of code bits and literals, one after the other: tests, or stores on the working copies.
-use layout::Layout;
 use meaning::Kind;
 use meaning::Operand;
 use meaning::Operator;
@@ -7,14 +6,15 @@ use tables::Chart;
 ghost use mathlib.Core.Path.{_≡_};
 ghost use mathlib.Core.List.{[], _∷_};
 ghost use Prim.Native.Nat.{_+_, _<_, _≤_};
+ghost use lib.ListN.{length};
 ghost use Rattle.meaning.specs.Tables.{Tables, stateCount};
 ghost use Rattle.meaning.specs.Hierarchy.{depth};
 ghost use Rattle.meaning.specs.Rules.{SubState, Rules};
 ghost use Rattle.meaning.specs.Written.{bitsFrom, groupBits, pathBits, kindTest, literalTests};
 ghost use Rattle.meaning.specs.declared.Operand.{Operand};
 ghost use Rattle.layout.specs.Laid.{LaidOut};
-ghost use Rattle.lines.specs.Put.{Put};
-ghost use Rattle.bits.specs.Sent.{lines, test, operatorAt, next, Sent, orTrue, bitAt, baseOf, Drawn};
+ghost use Rattle.lines.specs.Fit.{Fit};
+ghost use Rattle.bits.specs.Sent.{lines, test, asked, next, Sent, orTrue, bitAt, baseOf, laid, Drawn, Risen};
 
 // How the next test is written: "LD or LDN, then AND or ANDN"; or as a store, S or R.
 pub enum Way {
@@ -29,24 +29,25 @@ pub struct Spot {
     pub way: Way,
 }
 
-fn operator_at(way: Way, wanted: bool, o: Operand) -> Operator
-    ensures { λ r. ⌜ r ≡ operatorAt way (test wanted o) ⌝ }
+// The operator, up to its operand.
+fn put_asked(out: &mut [u8], at: usize, way: Way, wanted: bool) -> usize
+    ensures { λ r. ⌜ Fit (now (out .entry)) at (asked way wanted) (now (out .exit)) r ⌝ }
 {
     match way {
         Way::First => if wanted {
-            Operator::Ld(o)
+            lines::put_part(out, at, b"LD ")
         } else {
-            Operator::Ldn(o)
+            lines::put_part(out, at, b"LDN ")
         },
         Way::More => if wanted {
-            Operator::And(o)
+            lines::put_part(out, at, b"AND ")
         } else {
-            Operator::Andn(o)
+            lines::put_part(out, at, b"ANDN ")
         },
         Way::Store => if wanted {
-            Operator::S(o)
+            lines::put_part(out, at, b"S ")
         } else {
-            Operator::R(o)
+            lines::put_part(out, at, b"R ")
         },
     }
 }
@@ -61,12 +62,31 @@ fn next(way: Way) -> Way
     }
 }
 
-// One test or store.
-fn put_test(out: &mut [u8], spot: Spot, wanted: bool, o: Operand) -> Spot
-    ensures { λ r. ⌜ Sent (now (out .entry)) spot (test wanted o ∷ []) (now (out .exit)) r ⌝ }
+// One test or store of %MXn. No chart has numbers that 16 bits do not hold.
+fn put_bit(out: &mut [u8], spot: Spot, wanted: bool, n: u64) -> Spot
+    ensures { λ r. ⌜ (n < 65536 → Sent (now (out .entry)) spot (test wanted (Operand.Mx n) ∷ []) (now (out .exit)) r) ⌝ }
 {
     let way = spot.way;
-    let at = lines::put_operator(out, spot.at, operator_at(way, wanted, o));
+    let p = put_asked(out, spot.at, way, wanted);
+    let at = lines::put_mx(out, p, (n % 65536) as u16);
+    Spot { at, way: next(way) }
+}
+
+fn put_input(out: &mut [u8], spot: Spot, wanted: bool, n: u16) -> Spot
+    ensures { λ r. ⌜ Sent (now (out .entry)) spot (test wanted (Operand.Ix n) ∷ []) (now (out .exit)) r ⌝ }
+{
+    let way = spot.way;
+    let p = put_asked(out, spot.at, way, wanted);
+    let at = lines::put_ix(out, p, n);
+    Spot { at, way: next(way) }
+}
+
+fn put_expired(out: &mut [u8], spot: Spot, wanted: bool, n: u16) -> Spot
+    ensures { λ r. ⌜ Sent (now (out .entry)) spot (test wanted (Operand.TimerQ n) ∷ []) (now (out .exit)) r ⌝ }
+{
+    let way = spot.way;
+    let p = put_asked(out, spot.at, way, wanted);
+    let at = lines::put_named(out, p, n, b".Q\n");
     Spot { at, way: next(way) }
 }
 
@@ -85,8 +105,8 @@ fn put_bits(out: &mut [u8], spot: Spot, base: u32, first: u16, width: u8, code: 
     let mut k = code;
     let mut i = 0;
     while i < width {
-        let b = flip_flop((base as u64) + ((first as u64) + (i as u64)));
-        p = put_test(out, p, k % 2 == 1, b);
+        let b = (base as u64) + ((first as u64) + (i as u64));
+        p = put_bit(out, p, k % 2 == 1, b);
         k = k / 2;
         i += 1;
     }
@@ -105,8 +125,18 @@ fn base(way: Way, total: u32) -> u32
 }
 
 // The group of a, at the code of its sub-state s.
-pub fn put_group(out: &mut [u8], spot: Spot, layout: Layout, a: usize, s: usize) -> Spot
-    ensures { λ r. ⌜ ((c : Tables) → LaidOut c layout → Rules c → SubState c a s → Sent (now (out .entry)) spot (groupBits c (bitAt (baseOf (layout .total) (spot .way))) a s) (now (out .exit)) r) ⌝ }
+pub fn put_group(
+    out: &mut [u8],
+    spot: Spot,
+    first: &[u16; 256],
+    width: &[u8; 256],
+    code: &[u16; 256],
+    total: u32,
+    a: usize,
+    s: usize,
+) -> Spot
+    ensures { λ r. ⌜ ((c : Tables) → LaidOut c (laid (now (first .entry)) (now (width .entry)) (now (code .entry)) total) → Rules c → SubState c a s
+        → Sent (now (out .entry)) spot (groupBits c (bitAt (baseOf total (spot .way))) a s) (now (out .exit)) r) ⌝ }
 {
     if Chart::STATES <= a {
         return spot;
@@ -115,34 +145,55 @@ pub fn put_group(out: &mut [u8], spot: Spot, layout: Layout, a: usize, s: usize)
         return spot;
     }
     let way = spot.way;
-    let first = layout.first[a];
-    let width = layout.width[a];
-    let code = layout.code[s];
-    put_bits(out, spot, base(way, layout.total), first, width, code)
+    put_bits(out, spot, base(way, total), first[a], width[a], code[s])
 }
 
-// The groups that lead from the root down to s, k levels below it: "root down".
-fn put_path(out: &mut [u8], spot: Spot, states: &[u16], layout: Layout, k: usize, s: usize) -> Spot
-    ensures { λ r. ⌜ ((c : Tables) → Drawn c (now (states .entry)) layout → s < stateCount c → k ≡ depth c s → Sent (now (out .entry)) spot (pathBits c (bitAt (baseOf (layout .total) (spot .way))) k s) (now (out .exit)) r) ⌝ }
+// The states from s up to the root, and how many of them are below it.
+fn rise(states: &[u16], s: usize, path: &mut [usize; 10]) -> usize
+    requires { ⌜ length (now path) ≡ 10 ⌝ }
+    ensures { λ r. ⌜ (r ≤ 9) × ((c : Tables) → c .states ≡ now (states .entry) → Rules c → Risen c s (now (path .exit)) r) ⌝ }
 {
-    if k == 0 {
-        return spot;
+    let mut t = s;
+    let mut k = 0;
+    while k <= Chart::DEPTH {
+        path[k] = t;
+        if t == 0 {
+            return k;
+        }
+        t = tables::super_state(states, t);
+        k += 1;
     }
-    let a = tables::super_state(states, s);
-    let p = put_path(out, spot, states, layout, k - 1, a);
-    put_group(out, p, layout, a, s)
+    k
 }
 
-// "A state is the AND of its path's code bits"; as stores, the groups above it set to lead to it.
-pub fn put_state(out: &mut [u8], spot: Spot, states: &[u16], layout: Layout, s: usize) -> Spot
-    ensures { λ r. ⌜ ((c : Tables) → Drawn c (now (states .entry)) layout → s < stateCount c → Sent (now (out .entry)) spot (pathBits c (bitAt (baseOf (layout .total) (spot .way))) (depth c s) s) (now (out .exit)) r) ⌝ }
+// "A state is the AND of its path's code bits, root down"; as stores, the groups above it set to lead to it.
+pub fn put_state(
+    out: &mut [u8],
+    spot: Spot,
+    states: &[u16],
+    first: &[u16; 256],
+    width: &[u8; 256],
+    code: &[u16; 256],
+    total: u32,
+    s: usize,
+) -> Spot
+    ensures { λ r. ⌜ ((c : Tables) → Drawn c (now (states .entry)) (laid (now (first .entry)) (now (width .entry)) (now (code .entry)) total) → s < stateCount c
+        → Sent (now (out .entry)) spot (pathBits c (bitAt (baseOf total (spot .way))) (depth c s) s) (now (out .exit)) r) ⌝ }
 {
-    put_path(out, spot, states, layout, tables::depth(states, s), s)
+    let mut path = [0usize; 10];
+    let mut k = rise(states, s, &mut path);
+    let mut p = spot;
+    while 0 < k {
+        let a = path[k];
+        k -= 1;
+        p = put_group(out, p, first, width, code, total, a, path[k]);
+    }
+    p
 }
 
 // "with no bits and no literals LD TRUE"
 pub fn put_true(out: &mut [u8], spot: Spot) -> usize
-    ensures { λ r. ⌜ Put (now (out .entry)) (spot .at) (lines (orTrue (spot .way))) (now (out .exit)) r ⌝ }
+    ensures { λ r. ⌜ Fit (now (out .entry)) (spot .at) (lines (orTrue (spot .way))) (now (out .exit)) r ⌝ }
 {
     let at = spot.at;
     let way = spot.way;
@@ -158,8 +209,8 @@ fn put_kind(out: &mut [u8], spot: Spot, wanted: bool, kind: Kind) -> Spot
 {
     match kind {
         Kind::Unused => spot,
-        Kind::Input(n) => put_test(out, spot, wanted, Operand::Ix(n)),
-        Kind::Timer(n) => put_test(out, spot, wanted, Operand::TimerQ(n)),
+        Kind::Input(n) => put_input(out, spot, wanted, n),
+        Kind::Timer(n) => put_expired(out, spot, wanted, n),
         Kind::Unknown => spot,
     }
 }

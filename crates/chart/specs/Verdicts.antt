@@ -1,12 +1,13 @@
 -- What the check of the tables promises, and the laws of verdicts that stand one after the other.
 use mathlib.Core.Path.{_≡_, refl, sym, ap, _∙_}
 use mathlib.Core.Logic.{_⊎_, inl, inr}
-use Prim.Native.Nat.{ℕ, _-_, _+_, _≤_, _<_}
+use Prim.Native.Nat.{ℕ, suc, _-_, _+_, _/_, _≤_, _<_}
 use native.Mathlib.Nat.{zero-add}
 use native.Mathlib.Omega.{arith}
 use mathlib.Core.Bool.{Bool, true, false, not, true≢false, false≢true}
 use mathlib.Core.List.{List, [], _∷_, _++_}
 use lib.Dec.{eqb}
+use lib.ListN.{length}
 use borrow.Author.Tests.{eqb-true, eq-eqb, ne-eqb, not-false}
 use Rattle.meaning.specs.Rows.{least}
 use Rattle.meaning.specs.RowsLaws.{which, least-at, least-none, least-before, true-not, false-not}
@@ -15,6 +16,7 @@ use Rattle.meaning.specs.Check.{Check, firstFailing, verdictOf, sizePasses, hie
 use Rattle.meaning.specs.declared.Refusal.the-variants as R
 use Rattle.meaning.specs.declared.Verdict.{Verdict}
 use Rattle.meaning.specs.declared.Verdict.the-variants.{Accepted, Refused}
+use Rattle.literals.specs.Words.{WordsTo}
 use Rattle.chart.specs.declared.Rule.{Rule}
 use Rattle.chart.specs.declared.Rule.the-variants as L
 
@@ -25,6 +27,9 @@ Checked c r = r ≡ verdict c
 -- the checks of `checks`, by name
 abbrev pub sizeCheck : Tables → Check
 sizeCheck c = record { refusal = λ p. R.Size; rows = 1; passes = λ i. sizePasses c }
+
+abbrev pub literalCheck : Tables → Check
+literalCheck c = record { refusal = R.Literal; rows = moveCount c; passes = literalPasses c }
 
 abbrev pub idleCheck : Tables → Check
 idleCheck c = record { refusal = R.IdleTimer; rows = moveCount c; passes = idlePasses c }
@@ -42,14 +47,23 @@ checkOf c L.Preset = record { refusal = R.Preset; rows = timerCount c; passes = 
 checkOf c L.TimerPair = record { refusal = R.TimerPair; rows = pairCount (c .timerPairs); passes = pairPasses c (timerCount c) (c .timerPairs) }
 checkOf c L.OutputPair = record { refusal = R.OutputPair; rows = pairCount (c .outputPairs); passes = pairPasses c (c .outputs) (c .outputPairs) }
 checkOf c L.Move = record { refusal = R.Move; rows = moveCount c; passes = movePasses c }
-checkOf c L.Literal = record { refusal = R.Literal; rows = moveCount c; passes = literalPasses c }
 
--- the checks before the moves, and those of the moves
+-- the checks of the states and of the timers
+abbrev pub stateChecks : Tables → List Check
+stateChecks c = checkOf c L.Hierarchy ∷ checkOf c L.Initial ∷ []
+
+abbrev pub timerChecks : Tables → List Check
+timerChecks c = checkOf c L.Preset ∷ checkOf c L.TimerPair ∷ []
+
+-- the checks before the moves, those of what the moves ask for, and all of the moves
 abbrev pub tableChecks : Tables → List Check
 tableChecks c = checkOf c L.Hierarchy ∷ checkOf c L.Initial ∷ checkOf c L.Preset ∷ checkOf c L.TimerPair ∷ checkOf c L.OutputPair ∷ []
 
+abbrev pub askChecks : Tables → List Check
+askChecks c = literalCheck c ∷ idleCheck c ∷ overlapCheck c ∷ []
+
 abbrev pub moveChecks : Tables → List Check
-moveChecks c = checkOf c L.Move ∷ checkOf c L.Literal ∷ idleCheck c ∷ overlapCheck c ∷ []
+moveChecks c = checkOf c L.Move ∷ askChecks c
 
 -- "Refusals, in the order of checking"
 pub in-order : (c : Tables) → checks c ≡ ((sizeCheck c ∷ []) ++ (tableChecks c ++ (moveChecks c ++ (flipFlopCheck c ∷ []))))
@@ -125,6 +139,21 @@ rest-goes k ks e = elim (which (eqb (firstFailing k) (k .rows))) [
   | inl f ↦ rw (verdictOf, f) at e
   | inr f ↦ absurd (true≢false (rw (verdictOf, f) at e))
 ]
+
+-- ---- what the literals ask for
+
+-- LITERAL has passed, and what the moves ask for is in these words
+pub record Worded (c : Tables) (ws : List ℕ) : Type 0 where
+  pub pass : (i : ℕ) → i < moveCount c → literalPasses c i ≡ true
+  pub room : moveCount c ≤ length ws / 4
+  pub words : WordsTo c (moveCount c) ws
+
+pub worded : (c : Tables) (ws : List ℕ) {v : Verdict} → v ≡ verdictOf (literalCheck c ∷ []) → isRefused v ≡ false → moveCount c ≤ length ws / 4 → WordsTo c (moveCount c) ws → Worded c ws
+worded c ws e f h w = record { pass = passed (literalCheck c) (ap isRefused (sym e) ∙ f); room = h; words = w }
+
+-- those of the first moves
+pub words-first : (c : Tables) (ws : List ℕ) → Worded c ws → (i : ℕ) → i < moveCount c → WordsTo c (suc i) ws
+words-first c ws w i h k g = w .words k (omega arith)
 
 -- ---- the first check and the last
 

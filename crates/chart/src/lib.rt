@@ -4,21 +4,43 @@ use meaning::Verdict;
 use tables::Chart;
 ghost use mathlib.Core.Path.{_≡_};
 ghost use mathlib.Core.List.{[], _∷_};
-ghost use Rattle.meaning.specs.Tables.{Tables};
+ghost use mathlib.Core.Bool.{false};
+ghost use Prim.Native.Nat.{_/_, _≤_};
+ghost use lib.ListN.{length};
+ghost use Rattle.meaning.specs.Tables.{Tables, stateCount, moveCount, timerCount};
 ghost use Rattle.meaning.specs.Check.{verdictOf};
 ghost use Rattle.tables.specs.Given.{tablesOf, Lent};
 ghost use Rattle.rules.specs.Falling.{Falling};
-ghost use Rattle.idle.specs.Leaves.{Sound, Below, Sources};
-ghost use Rattle.chart.specs.Verdicts.{Checked, checkOf, idleCheck, overlapCheck, tableChecks, moveChecks, flipFlopCheck, isRefused};
+ghost use Rattle.pairing.specs.Words.{Clear};
+ghost use Rattle.literals.specs.Words.{WordsTo};
+ghost use Rattle.idle.specs.Leaves.{Sound, Full, Below, Sources};
+ghost use Rattle.chart.specs.Verdicts.{Checked, checkOf, literalCheck, idleCheck, overlapCheck, stateChecks, timerChecks, tableChecks, askChecks, moveChecks, flipFlopCheck, isRefused, Worded};
 
-// ---- 9 IDLE TIMER
+// ---- 8 LITERAL
 
-fn judge_idle(moves: &[i16], words: &[u64]) -> Verdict
-    ensures { λ r. ⌜ ((c : Tables) → c .moves ≡ now (moves .entry) → Below c (now (words .entry)) → Sources c → r ≡ verdictOf (idleCheck c ∷ [])) ⌝ }
+// What the moves ask for is kept in words, four a move, for the two checks after this one.
+fn judge_literal(inputs: u32, timers: usize, moves: &[i16], asks: &mut [u64]) -> Verdict
+    ensures { λ r. ⌜ ((c : Tables) → c .inputs ≡ inputs → timerCount c ≡ timers → c .moves ≡ now (moves .entry) → (r ≡ verdictOf (literalCheck c ∷ []))
+        × (isRefused r ≡ false → moveCount c ≤ length (now (asks .entry)) / 4 → WordsTo c (moveCount c) (now (asks .exit)))) ⌝ }
 {
     let mut i = 0;
     while i < moves.len() / 11 {
-        if !idle::idle_passes(moves, words, i) {
+        if !literals::literal_passes(inputs, timers, moves, i, asks) {
+            return Verdict::Refused(Refusal::Literal(i));
+        }
+        i += 1;
+    }
+    Verdict::Accepted
+}
+
+// ---- 9 IDLE TIMER
+
+fn judge_idle(moves: &[i16], asks: &[u64], below: &[u64]) -> Verdict
+    ensures { λ r. ⌜ ((c : Tables) → c .moves ≡ now (moves .entry) → Below c (now (below .entry)) → Sources c → Worded c (now (asks .entry)) → r ≡ verdictOf (idleCheck c ∷ [])) ⌝ }
+{
+    let mut i = 0;
+    while i < moves.len() / 11 {
+        if !idle::idle_passes(moves, asks, below, i) {
             return Verdict::Refused(Refusal::IdleTimer(i));
         }
         i += 1;
@@ -26,15 +48,47 @@ fn judge_idle(moves: &[i16], words: &[u64]) -> Verdict
     Verdict::Accepted
 }
 
+// Over lent words, one a state or more: those of the timers that run, none yet, and those of the timers that all leaves
+// below run, all of them.
+fn judge_running(
+    states: &[u16],
+    moves: &[i16],
+    timer_pairs: &[u16],
+    asks: &[u64],
+    running: &mut [u64],
+    below: &mut [u64],
+) -> Verdict
+    ensures { λ r. ⌜ ((c : Tables) → c .states ≡ now (states .entry) → c .moves ≡ now (moves .entry) → c .timerPairs ≡ now («timer_pairs» .entry) → Sound c → Sources c → Worded c (now (asks .entry))
+        → stateCount c ≤ length (now (running .entry)) → stateCount c ≤ length (now (below .entry)) → Clear (now (running .entry)) → Full (now (below .entry)) → r ≡ verdictOf (idleCheck c ∷ [])) ⌝ }
+{
+    pairing::paired_words(states, timer_pairs, running);
+    idle::run_below(states, running, below);
+    judge_idle(moves, asks, below)
+}
+
+// A chart of few states has small arrays to clear.
+fn judge_timers(states: &[u16], moves: &[i16], timer_pairs: &[u16], asks: &[u64]) -> Verdict
+    ensures { λ r. ⌜ ((c : Tables) → c .states ≡ now (states .entry) → c .moves ≡ now (moves .entry) → c .timerPairs ≡ now («timer_pairs» .entry) → Sound c → Sources c → Worded c (now (asks .entry)) → r ≡ verdictOf (idleCheck c ∷ [])) ⌝ }
+{
+    if states.len() / 2 <= 16 {
+        let mut running = [0u64; 16];
+        let mut below = [18446744073709551615u64; 16];
+        return judge_running(states, moves, timer_pairs, asks, &mut running, &mut below);
+    }
+    let mut running = [0u64; 256];
+    let mut below = [18446744073709551615u64; 256];
+    judge_running(states, moves, timer_pairs, asks, &mut running, &mut below)
+}
+
 // ---- 10 OVERLAP
 
 // "an earlier move overlaps it": once the hierarchy has passed, because the search for a source above stops early then.
-fn judge_overlap(states: &[u16], moves: &[i16]) -> Verdict
-    ensures { λ r. ⌜ ((c : Tables) → c .states ≡ now (states .entry) → c .moves ≡ now (moves .entry) → Falling c → r ≡ verdictOf (overlapCheck c ∷ [])) ⌝ }
+fn judge_overlap(states: &[u16], moves: &[i16], asks: &[u64]) -> Verdict
+    ensures { λ r. ⌜ ((c : Tables) → c .states ≡ now (states .entry) → c .moves ≡ now (moves .entry) → Falling c → Worded c (now (asks .entry)) → r ≡ verdictOf (overlapCheck c ∷ [])) ⌝ }
 {
     let mut i = 0;
     while i < moves.len() / 11 {
-        if !rules::overlap_passes(states, moves, i) {
+        if !literals::overlap_passes(states, moves, asks, i) {
             return Verdict::Refused(Refusal::Overlap(i));
         }
         i += 1;
@@ -44,7 +98,7 @@ fn judge_overlap(states: &[u16], moves: &[i16]) -> Verdict
 
 // ---- the row checks
 
-// The checks whose rows are looked at one by one, but for IDLE TIMER and OVERLAP, which lean on those before them.
+// The checks whose rows are looked at one by one and need nothing of the checks before them.
 pub enum Rule {
     Hierarchy,
     Initial,
@@ -52,7 +106,6 @@ pub enum Rule {
     TimerPair,
     OutputPair,
     Move,
-    Literal,
 }
 
 fn rows(
@@ -72,7 +125,6 @@ fn rows(
         Rule::TimerPair => timer_pairs.len() / 2,
         Rule::OutputPair => output_pairs.len() / 2,
         Rule::Move => moves.len() / 11,
-        Rule::Literal => moves.len() / 11,
     }
 }
 
@@ -101,7 +153,6 @@ fn passes(
         Rule::TimerPair => rules::pair_passes(states, presets.len(), timer_pairs, i),
         Rule::OutputPair => rules::pair_passes(states, wide(chart.outputs), output_pairs, i),
         Rule::Move => rules::move_passes(states, moves, i),
-        Rule::Literal => rules::literal_passes(chart.inputs, presets.len(), moves, i),
     }
 }
 
@@ -115,7 +166,6 @@ fn refusal(rule: Rule, i: usize) -> Refusal
         Rule::TimerPair => Refusal::TimerPair(i),
         Rule::OutputPair => Refusal::OutputPair(i),
         Rule::Move => Refusal::Move(i),
-        Rule::Literal => Refusal::Literal(i),
     }
 }
 
@@ -160,8 +210,8 @@ fn refused(v: Verdict) -> bool
     }
 }
 
-// 2 to 6: what the states are, and what is paired with them.
-fn judge_tables(
+// 2 and 3: what the states are.
+fn judge_states(
     chart: Chart,
     states: &[u16],
     moves: &[i16],
@@ -169,7 +219,7 @@ fn judge_tables(
     timer_pairs: &[u16],
     output_pairs: &[u16],
 ) -> Verdict
-    ensures { λ r. ⌜ r ≡ verdictOf (tableChecks (tablesOf chart (now (states .entry)) (now (moves .entry)) (now (presets .entry)) (now («timer_pairs» .entry)) (now («output_pairs» .entry)))) ⌝ }
+    ensures { λ r. ⌜ r ≡ verdictOf (stateChecks (tablesOf chart (now (states .entry)) (now (moves .entry)) (now (presets .entry)) (now («timer_pairs» .entry)) (now («output_pairs» .entry)))) ⌝ }
 {
     let hierarchy = judge(
         Rule::Hierarchy,
@@ -183,7 +233,7 @@ fn judge_tables(
     if refused(hierarchy) {
         return hierarchy;
     }
-    let initial = judge(
+    judge(
         Rule::Initial,
         chart,
         states,
@@ -191,10 +241,20 @@ fn judge_tables(
         presets,
         timer_pairs,
         output_pairs,
-    );
-    if refused(initial) {
-        return initial;
-    }
+    )
+}
+
+// 4 and 5: what the timers are, and what is paired with them.
+fn judge_presets(
+    chart: Chart,
+    states: &[u16],
+    moves: &[i16],
+    presets: &[u32],
+    timer_pairs: &[u16],
+    output_pairs: &[u16],
+) -> Verdict
+    ensures { λ r. ⌜ r ≡ verdictOf (timerChecks (tablesOf chart (now (states .entry)) (now (moves .entry)) (now (presets .entry)) (now («timer_pairs» .entry)) (now («output_pairs» .entry)))) ⌝ }
+{
     let preset = judge(
         Rule::Preset,
         chart,
@@ -207,7 +267,7 @@ fn judge_tables(
     if refused(preset) {
         return preset;
     }
-    let timer_pair = judge(
+    judge(
         Rule::TimerPair,
         chart,
         states,
@@ -215,9 +275,27 @@ fn judge_tables(
         presets,
         timer_pairs,
         output_pairs,
-    );
-    if refused(timer_pair) {
-        return timer_pair;
+    )
+}
+
+// 2 to 6: what the states are, and what is paired with them.
+fn judge_tables(
+    chart: Chart,
+    states: &[u16],
+    moves: &[i16],
+    presets: &[u32],
+    timer_pairs: &[u16],
+    output_pairs: &[u16],
+) -> Verdict
+    ensures { λ r. ⌜ r ≡ verdictOf (tableChecks (tablesOf chart (now (states .entry)) (now (moves .entry)) (now (presets .entry)) (now («timer_pairs» .entry)) (now («output_pairs» .entry)))) ⌝ }
+{
+    let state = judge_states(chart, states, moves, presets, timer_pairs, output_pairs);
+    if refused(state) {
+        return state;
+    }
+    let timer = judge_presets(chart, states, moves, presets, timer_pairs, output_pairs);
+    if refused(timer) {
+        return timer;
     }
     judge(
         Rule::OutputPair,
@@ -230,16 +308,30 @@ fn judge_tables(
     )
 }
 
-// 9, with its words: after the moves and the literals, because only then do they name states and timers that there are.
-fn judge_timers(states: &[u16], moves: &[i16], timer_pairs: &[u16]) -> Verdict
-    ensures { λ r. ⌜ ((c : Tables) → c .states ≡ now (states .entry) → c .moves ≡ now (moves .entry) → c .timerPairs ≡ now («timer_pairs» .entry) → Sound c → Sources c → r ≡ verdictOf (idleCheck c ∷ [])) ⌝ }
+// 8 to 10, over four lent words a move.
+fn judge_asks(
+    inputs: u32,
+    states: &[u16],
+    moves: &[i16],
+    presets: &[u32],
+    timer_pairs: &[u16],
+    asks: &mut [u64],
+) -> Verdict
+    ensures { λ r. ⌜ ((c : Tables) → c .inputs ≡ inputs → c .states ≡ now (states .entry) → c .moves ≡ now (moves .entry) → c .presets ≡ now (presets .entry) → c .timerPairs ≡ now («timer_pairs» .entry)
+        → Sound c → Sources c → moveCount c ≤ length (now (asks .entry)) / 4 → r ≡ verdictOf (askChecks c)) ⌝ }
 {
-    let running = pairing::paired_words(states, timer_pairs);
-    let below = idle::run_below(states, &running);
-    judge_idle(moves, &below)
+    let literal = judge_literal(inputs, presets.len(), moves, asks);
+    if refused(literal) {
+        return literal;
+    }
+    let idle = judge_timers(states, moves, timer_pairs, asks);
+    if refused(idle) {
+        return idle;
+    }
+    judge_overlap(states, moves, asks)
 }
 
-// 7 to 10: the moves.
+// 7 to 10: the moves. A chart of few of them has a small array to clear.
 fn judge_moves(
     chart: Chart,
     states: &[u16],
@@ -262,31 +354,20 @@ fn judge_moves(
     if refused(source) {
         return source;
     }
-    let literal = judge(
-        Rule::Literal,
-        chart,
-        states,
-        moves,
-        presets,
-        timer_pairs,
-        output_pairs,
-    );
-    if refused(literal) {
-        return literal;
+    let inputs = chart.inputs;
+    if moves.len() / 11 <= 16 {
+        let mut asks = [0u64; 64];
+        return judge_asks(inputs, states, moves, presets, timer_pairs, &mut asks);
     }
-    let idle = judge_timers(states, moves, timer_pairs);
-    if refused(idle) {
-        return idle;
-    }
-    judge_overlap(states, moves)
+    let mut asks = [0u64; 2048];
+    judge_asks(inputs, states, moves, presets, timer_pairs, &mut asks)
 }
 
 // 11: "more than 128"
 fn judge_flip_flops(states: &[u16]) -> Verdict
     ensures { λ r. ⌜ ((c : Tables) → c .states ≡ now (states .entry) → Sound c → r ≡ verdictOf (flipFlopCheck c ∷ [])) ⌝ }
 {
-    let laid = layout::lay_out(states);
-    let total = laid.total;
+    let total = layout::flip_flops(states);
     if Chart::FLIP_FLOPS < total {
         return Verdict::Refused(Refusal::FlipFlops);
     }

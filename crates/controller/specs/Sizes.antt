@@ -1,9 +1,10 @@
--- What a list of words asks of a lent controller: flip-flop bytes, blocks, and the time of each block's rung.
+-- What a list of words asks of a lent controller: flip-flop bytes, and the time of each block's rung.
 use mathlib.Core.Path.{_≡_, refl, sym, ap, _∙_}
 use mathlib.Core.Logic.{inl, inr}
-use Prim.Native.Nat.{ℕ, zero, suc, _+_, _-_, _≤_, _<_, min, max}
+use Prim.Native.Nat.{ℕ, zero, suc, _+_, _-_, _/_, _≤_, _<_, min, max}
 use native.Mathlib.Nat.{add-assoc}
 use native.Mathlib.Omega.{arith}
+use native.Mathlib.Decide.{decLe}
 use mathlib.Core.Bool.{Bool, true, false, _&&_, cond, false≢true}
 use mathlib.Core.List.{List, [], _∷_, _++_, map, flatMap}
 use lib.ListN.{length, getD, set, drop, drop-of-length-le, replicate}
@@ -13,7 +14,7 @@ use lib.Dec.{leb}
 use borrow.Author.Tests.{leb-true, le-leb, lt-leb}
 use Rattle.meaning.specs.RowsLaws.{and-l, and-r, and-both}
 use Rattle.meaning.specs.Tables.{mostTimers}
-use Rattle.meaning.specs.Programs.{Test, Chain, Part, also, bracket, Body, Rung, TimerRung, Program, loadOf, andOf, chainOf, partOf, bodyOf, rungOf, timerRungOf, timerRungsFrom, instructions, all, bodyFits, storeFits, rungFits, timerRungFits, fits, carried, bytesFor, flipFlopBytes}
+use Rattle.meaning.specs.Programs.{Test, Chain, Part, also, bracket, Body, Rung, TimerRung, Program, loadOf, andOf, chainOf, partOf, bodyOf, rungOf, timerRungOf, timerRungsFrom, instructions, all, testable, flipFlopFits, bodyFits, storeFits, rungFits, timerRungFits, fits, carried, bytesFor, flipFlopBytes}
 use Rattle.meaning.specs.declared.Operand.{Operand}
 use Rattle.meaning.specs.declared.Operand.the-variants.{Mx, Ix, Qx, TimerQ, TimerIn, TimerPt, Timer, False, True}
 use Rattle.meaning.specs.declared.Operator.{Operator}
@@ -21,10 +22,11 @@ use Rattle.meaning.specs.declared.Operator.the-variants.{Ld, Ldn, And, Andn, Or
 use Rattle.format.specs.declared.Decoded.{Decoded}
 use Rattle.format.specs.declared.Decoded.the-variants.{Known, Unknown}
 use Rattle.format.specs.Words.{word, words}
-use Rattle.format.specs.Decode.{instruction, decoded}
-use Rattle.format.specs.DecodeLaws.{decode-word}
+use Rattle.format.specs.Decode.{instruction, operandOf, kept, unpacked, decoded}
+use Rattle.format.specs.DecodeLaws.{decode-word, word-decode}
 use Rattle.format.specs.Passing.{program-instructions}
 use Rattle.instruction.specs.Effect.{due, calledBy, blockOf}
+use Rattle.instruction.specs.Numbers.{mx-of}
 use Rattle.il.specs.Scans.{Fitting}
 
 unfoldable pub bytesIn : Decoded → ℕ
@@ -54,22 +56,21 @@ unfoldable pub timeIn : ℕ → Decoded → ℕ
 timeIn t (Known i) = timeAfter t i
 timeIn t Unknown = t
 
--- how many calls there were, the time loaded last, and the times at the calls, in a list of 32
+-- the time loaded last, and the times at the calls, in a list of 32
 pub record Rungs : Type 0 where
-  pub count : ℕ
   pub time : ℕ
   pub times : List ℕ
 
 unfoldable pub rungAfter : Decoded → Rungs → Rungs
 rungAfter i r = let t = timeIn (r .time) i in
-    cond (leb 32 (due 32 i)) (record { count = r .count; time = t; times = r .times }) (record { count = r .count + 1; time = t; times = set (r .times) (due 32 i) t })
+    cond (leb 32 (due 32 i)) (record { time = t; times = r .times }) (record { time = t; times = set (r .times) (due 32 i) t })
 
 unfoldable pub rungsIn : List ℕ → Rungs → Rungs
 rungsIn [] r = r
 rungsIn (w ∷ ws) r = rungsIn ws (rungAfter (decoded w) r)
 
 abbrev pub noRungs : Rungs
-noRungs = record { count = 0; time = 0; times = replicate 32 0 }
+noRungs = record { time = 0; times = replicate 32 0 }
 
 -- ---- by the instructions of a program that fits
 
@@ -170,25 +171,23 @@ idle-rungs d (r ∷ rs) e =
     (idle-then (bodyOf (r .body)) (r .store ∷ r .stores) (idle-body (r .body)) (idle-stores (r .store ∷ r .stores) (and-both _ _ (and-r (bodyFits d (r .body)) _ (and-l _ (all storeFits (r .stores)) f)) (and-r (bodyFits d (r .body) && storeFits (r .store)) _ f))))
     (idle-rungs d rs (and-r (rungFits d r) (all (rungFits d) rs) e))
 
--- a timer rung is counted, and its time is kept
-timer-rung : (k : ℕ) (t : TimerRung) (r : Rungs) → k < 32 → rungsBy (timerRungOf (suc k) t) r ≡ record { count = r .count + 1; time = t .time; times = set (r .times) k (t .time) }
+-- the time of a timer rung is kept
+timer-rung : (k : ℕ) (t : TimerRung) (r : Rungs) → k < 32 → rungsBy (timerRungOf (suc k) t) r ≡ record { time = t .time; times = set (r .times) k (t .time) }
 unfolding timerRungOf rungsBy rungAfter timeIn timeAfter due calledBy blockOf Idle
 timer-rung k t r h =
     let e : min (suc k - 1) 32 ≡ k = omega arith in
     rungs-append (bodyOf (t .body)) _ r ∙ rw (idle-body (t .body) r, e, lt-leb 32 k h)
 
-timer-rungs : (k : ℕ) (ts : List TimerRung) (r : Rungs) → k + length ts ≤ 32
-    → (rungsBy (timerRungsFrom (suc k) ts) r .count ≡ r .count + length ts) × (rungsBy (timerRungsFrom (suc k) ts) r .times ≡ sets (r .times) k (map (λ t. t .time) ts))
+timer-rungs : (k : ℕ) (ts : List TimerRung) (r : Rungs) → k + length ts ≤ 32 → rungsBy (timerRungsFrom (suc k) ts) r .times ≡ sets (r .times) k (map (λ t. t .time) ts)
 unfolding timerRungsFrom rungsBy
-timer-rungs k [] r h = (omega arith, refl)
+timer-rungs k [] r h = refl
 timer-rungs k (t ∷ ts) r h =
-    let i = timer-rungs (suc k) ts (record { count = r .count + 1; time = t .time; times = set (r .times) k (t .time) }) (omega arith) in
-    rw (rungs-append (timerRungOf (suc k) t) (timerRungsFrom (suc (suc k)) ts) r, timer-rung k t r (omega arith)) (i .0 ∙ omega arith, i .1)
+    rw (rungs-append (timerRungOf (suc k) t) (timerRungsFrom (suc (suc k)) ts) r, timer-rung k t r (omega arith))
+    (timer-rungs (suc k) ts (record { time = t .time; times = set (r .times) k (t .time) }) (omega arith))
 
 -- what the words of a program that fits ask for
 pub record Asks (p : Program) (ws : List ℕ) : Type 0 where
   pub bytes : bytesNamed ws ≡ flipFlopBytes (instructions p)
-  pub blocks : rungsIn ws noRungs .count ≡ length (p .timers)
   pub times : rungsIn ws noRungs .times ≡ sets (replicate 32 0) 0 (map (λ t. t .time) (p .timers))
 
 pub program-asks : (p : Program) (ws : List ℕ) → Fitting p ws → Asks p ws
@@ -202,17 +201,7 @@ program-asks p ws f =
     rw (← f .list, rungs-words (instructions p) noRungs k) (rungs-append (timerRungsFrom 1 (p .timers)) (flatMap rungOf (p .rungs)) noRungs
     ∙ idle-rungs d (p .rungs) (and-r (leb d mostTimers && all (timerRungFits d) (p .timers)) _ (f .program)) _) in
     let r = timer-rungs 0 (p .timers) noRungs (omega arith) in
-    record { bytes = rw (← f .list) (bytes-words (instructions p) k); blocks = rw e (r .0 ∙ omega arith); times = rw e (r .1) }
-
--- the answer: bytes, blocks and times, for any words, and for those of a program that fits
-pub record SizesOf (ws : List ℕ) (b n : ℕ) (ts : List ℕ) : Type 0 where
-  pub bytes : b ≡ bytesNamed ws
-  pub blocks : n ≡ rungsIn ws noRungs .count
-  pub times : ts ≡ rungsIn ws noRungs .times
-  pub right : (p : Program) → Fitting p ws → (b ≡ flipFlopBytes (instructions p)) × (n ≡ length (p .timers)) × (ts ≡ sets (replicate 32 0) 0 (map (λ t. t .time) (p .timers)))
-
-pub sizes-of : {ws : List ℕ} {b n : ℕ} {ts : List ℕ} → b ≡ bytesNamed ws → n ≡ rungsIn ws noRungs .count → ts ≡ rungsIn ws noRungs .times → SizesOf ws b n ts
-sizes-of {ws} e f g = record { bytes = e; blocks = f; times = g; right = λ p h. (let a = program-asks p ws h in (e ∙ a .bytes, f ∙ a .blocks, g ∙ a .times)) }
+    record { bytes = rw (← f .list) (bytes-words (instructions p) k); times = rw e r }
 
 -- ---- one word after the other
 
@@ -232,10 +221,63 @@ pub rungs-end : (ws : List ℕ) (i : ℕ) (r : Rungs) → length ws ≤ i → ru
 unfolding rungsIn
 rungs-end ws i r h = rw (drop-of-length-le ws {i = i} h)
 
-pub rung-called : (i : Decoded) (n t : ℕ) (ts : List ℕ) → due 32 i < 32 → rungAfter i (record { count = n; time = t; times = ts }) ≡ record { count = n + 1; time = timeIn t i; times = set ts (due 32 i) (timeIn t i) }
+pub rung-called : (i : Decoded) (t : ℕ) (ts : List ℕ) → due 32 i < 32 → rungAfter i (record { time = t; times = ts }) ≡ record { time = timeIn t i; times = set ts (due 32 i) (timeIn t i) }
 unfolding rungAfter
-rung-called i n t ts h = rw (lt-leb 32 (due 32 i) h)
+rung-called i t ts h = rw (lt-leb 32 (due 32 i) h)
 
-pub rung-none : (i : Decoded) (n t : ℕ) (ts : List ℕ) → 32 ≤ due 32 i → rungAfter i (record { count = n; time = t; times = ts }) ≡ record { count = n; time = timeIn t i; times = ts }
+pub rung-none : (i : Decoded) (t : ℕ) (ts : List ℕ) → 32 ≤ due 32 i → rungAfter i (record { time = t; times = ts }) ≡ record { time = timeIn t i; times = ts }
 unfolding rungAfter
-rung-none i n t ts h = rw (le-leb 32 (due 32 i) h)
+rung-none i t ts h = rw (le-leb 32 (due 32 i) h)
+
+-- ---- by the two numbers of a word, operator k and operand m
+
+-- LD, LDN, AND and ANDN of a flip-flop
+pub bytes-tested : (k m : ℕ) → 0 < k → k < 5 → m < 256 → suc m ≡ bytesIn (unpacked k m)
+unfolding unpacked kept instruction testable bytesIn bytesFor carried
+bytes-tested zero m g h l = absurd (omega arith)
+bytes-tested (suc zero) m g h l = rw (mx-of m (omega arith), le-leb m 255 (omega arith))
+bytes-tested (suc (suc zero)) m g h l = rw (mx-of m (omega arith), le-leb m 255 (omega arith))
+bytes-tested (suc (suc (suc zero))) m g h l = rw (mx-of m (omega arith), le-leb m 255 (omega arith))
+bytes-tested (suc (suc (suc (suc zero)))) m g h l = rw (mx-of m (omega arith), le-leb m 255 (omega arith))
+bytes-tested (suc (suc (suc (suc (suc k))))) m g h l = absurd (omega arith)
+
+-- ST, S and R of one
+pub bytes-stored : (k m : ℕ) → 6 < k → k < 10 → m < 256 → suc m ≡ bytesIn (unpacked k m)
+unfolding unpacked kept instruction flipFlopFits bytesIn bytesFor carried
+bytes-stored k m g h l =
+    let o : operandOf m ≡ Mx m = mx-of m (omega arith) in
+    let f : leb m 255 ≡ true = le-leb m 255 (omega arith) in
+    elim (decLe k 7) [
+      | yes a ↦ let e : k ≡ 7 = omega arith in rw (e, o, f)
+      | no a ↦ elim (decLe k 8) [
+        | yes b ↦ let e : k ≡ 8 = omega arith in rw (e, o, f)
+        | no b ↦ let e : k ≡ 9 = omega arith in rw (e, o, f)
+      ]
+    ]
+
+-- OR( and )
+pub bytes-bracket : (k : ℕ) → 4 < k → k < 7 → 0 ≡ bytesIn (unpacked k 0)
+unfolding unpacked bytesIn bytesFor carried
+bytes-bracket k g h = elim (decLe k 5) [
+  | yes a ↦ let e : k ≡ 5 = omega arith in rw e
+  | no a ↦ let e : k ≡ 6 = omega arith in rw e
+]
+
+-- no time is loaded by what is below CAL
+pub not-timed : (t w : ℕ) → w / 134217728 < 10 → timeIn t (decoded w) ≡ t
+unfolding timeIn timeAfter word
+not-timed t w h = at (decoded w) (word-decode w)
+  where
+    at : (d : Decoded) → ((i : Operator) → d ≡ Known i → (instruction i ≡ true) × (word i ≡ w)) → timeIn t d ≡ t
+    at Unknown f = refl
+    at (Known (Ld o)) f = refl
+    at (Known (Ldn o)) f = refl
+    at (Known (And o)) f = refl
+    at (Known (Andn o)) f = refl
+    at (Known Or) f = refl
+    at (Known Close) f = refl
+    at (Known (St o)) f = refl
+    at (Known (S o)) f = refl
+    at (Known (R o)) f = refl
+    at (Known (Cal o)) f = refl
+    at (Known (LdTime n)) f = absurd (omega (arith, f (LdTime n) refl .1))

@@ -1,15 +1,14 @@
-// What a program's words ask of a lent controller, and whether one is valid.
+// What a program's words ask of a lent controller, and whether bytes are bits.
 use format::Decoded;
-use meaning::Block;
 use meaning::Operand;
 use meaning::Operator;
 ghost use mathlib.Core.Path.{_≡_};
 ghost use mathlib.Core.Bool.{Bool};
 ghost use mathlib.Core.Logic.{_↔_};
-ghost use Prim.Native.Nat.{_≤_};
-ghost use Rattle.controller.specs.Validity.{AreBits, InTime, ValidityOf};
+ghost use Rattle.controller.specs.Validity.{AreBits};
 ghost use Rattle.meaning.specs.Programs.{carried, bytesFor};
-ghost use Rattle.controller.specs.Sizes.{bytesIn, bytesNamed, timeAfter, timeIn, SizesOf, rungsIn, noRungs};
+ghost use Rattle.controller.specs.Sizes.{bytesIn, bytesNamed, timeAfter, timeIn, rungsIn, noRungs};
+ghost use Rattle.format.specs.Decode.{decoded};
 
 // The bytes that an operand asks for: one more than the number of a flip-flop.
 fn bytes_for(o: Operand) -> usize
@@ -55,14 +54,40 @@ fn bytes_in(d: Decoded) -> usize
     }
 }
 
+// The bytes that a word asks for: of tests, brackets and stores in flip-flops by its two numbers.
+fn bytes_of(w: u32) -> usize
+    ensures { λ r. ⌜ r ≡ bytesIn (decoded w) ⌝ }
+{
+    let k = w / 134217728;
+    let m = w % 134217728;
+    if m < 256 {
+        if k < 5 {
+            if 0 < k {
+                return m as usize + 1;
+            }
+        } else {
+            if 6 < k {
+                if k < 10 {
+                    return m as usize + 1;
+                }
+            } else {
+                if m < 1 {
+                    return 0;
+                }
+            }
+        }
+    }
+    bytes_in(decode::decode(w))
+}
+
 // "one more than the highest %MX the program names (0 if none)"
-fn flip_flop_bytes(words: &[u32]) -> usize
+pub fn flip_flop_bytes(words: &[u32]) -> usize
     ensures { λ r. ⌜ r ≡ bytesNamed (now (words .entry)) ⌝ }
 {
     let mut most: usize = 0;
     let mut i = 0;
     while i < words.len() {
-        let n = bytes_in(decode::decode(words[i]));
+        let n = bytes_of(words[i]);
         if most < n {
             most = n;
         }
@@ -98,43 +123,33 @@ fn time_in(t: u32, d: Decoded) -> u32
     }
 }
 
-// What a list of words asks of a controller: flip-flop bytes, blocks, and each block's time.
-pub struct Sizes {
-    pub bytes: usize,
-    pub blocks: usize,
-    pub times: [u32; 32],
+// The time loaded last after a word.
+fn time_of(t: u32, w: u32) -> u32
+    ensures { λ r. ⌜ r ≡ timeIn t (decoded w) ⌝ }
+{
+    if w / 134217728 < 10 {
+        return t;
+    }
+    time_in(t, decode::decode(w))
 }
 
-pub fn controller_size(words: &[u32]) -> Sizes
-    ensures { λ r. ⌜ SizesOf (now (words .entry)) (r .bytes) (r .blocks) (r .times) ⌝ }
+// Each block's time: the one loaded last at its CAL.
+pub fn times_of(words: &[u32]) -> [u32; 32]
+    ensures { λ r. ⌜ r ≡ rungsIn (now (words .entry)) noRungs .times ⌝ }
 {
-    let mut count: usize = 0;
     let mut time: u32 = 0;
     let mut times = [0u32; 32];
     let mut i = 0;
     while i < words.len() {
-        let d = decode::decode(words[i]);
-        time = time_in(time, d);
-        let k = instruction::block_due(32, d);
+        let w = words[i];
+        time = time_of(time, w);
+        let k = instruction::word_due(32, w);
         if k < 32 {
-            count += 1;
             times[k] = time;
         }
         i += 1;
     }
-    Sizes {
-        bytes: flip_flop_bytes(words),
-        blocks: count,
-        times: times,
-    }
-}
-
-// Each block's time alone.
-pub fn times_of(words: &[u32]) -> [u32; 32]
-    ensures { λ r. ⌜ r ≡ rungsIn (now (words .entry)) noRungs .times ⌝ }
-{
-    let asked = controller_size(words);
-    asked.times
+    times
 }
 
 // "byte not 0 or 1"
@@ -149,41 +164,4 @@ pub fn are_bits(ff: &[u8]) -> bool
         i += 1;
     }
     true
-}
-
-// "block with ET above its rung's time"
-fn in_time(row: [Block; 32], times: [u32; 32], n: usize) -> bool
-    requires { ⌜ n ≤ 32 ⌝ }
-    ensures { λ r. ⌜ (r ≡ Bool.true) ↔ InTime row times n ⌝ }
-{
-    let mut i = 0;
-    while i < n {
-        let b = row[i];
-        let et = b.et;
-        if times[i] < et {
-            return false;
-        }
-        i += 1;
-    }
-    true
-}
-
-// Whether flip-flop bytes and the blocks at the front of a row are a valid controller of the words' program.
-pub fn is_valid(words: &[u32], ff: &[u8], row: [Block; 32]) -> bool
-    ensures { λ r. ⌜ ValidityOf (now (words .entry)) (now (ff .entry)) row r ⌝ }
-{
-    let asked = controller_size(words);
-    let bytes = asked.bytes;
-    let n = asked.blocks;
-    let times = asked.times;
-    if ff.len() != bytes {
-        return false;
-    }
-    if 32 < n {
-        return false;
-    }
-    if are_bits(ff) {
-        return in_time(row, times, n);
-    }
-    false
 }

@@ -72,6 +72,17 @@ untouched (Closed negative n) = false
 untouched Return = false
 untouched Bad = false
 
+-- a field begins here
+abbrev pub begins : Phase → Bool
+begins Fresh = true
+begins Empty = true
+begins Quote = false
+begins (Minus quoted) = false
+begins (Number quoted negative n) = false
+begins (Closed negative n) = false
+begins Return = false
+begins Bad = false
+
 abbrev pub failed : Phase → Bool
 failed Fresh = false
 failed Empty = false

@@ -1,7 +1,7 @@
 // A field of a record, byte after byte: "a decimal of its type (no +, -0 or leading zero)", bare or quoted.
 ghost use mathlib.Core.Path.{_≡_};
 ghost use mathlib.Core.Bool.{true, false, cond};
-ghost use Rattle.field.specs.Field.{grown, begun, numberAfter, phaseAfter, encoded, decimalOf, returned, untouched, failed, signedOf};
+ghost use Rattle.field.specs.Field.{grown, begun, numberAfter, phaseAfter, encoded, decimalOf, returned, untouched, begins, failed, signedOf};
 
 // Where the reader stands in its field. Number and Closed hold the sign and the size; the first bool says that a quote is open.
 pub enum Phase {
@@ -25,7 +25,7 @@ pub enum Decimal {
     IsNot,
 }
 
-fn wide(b: u8) -> u64
+pub fn wide(b: u8) -> u64
     ensures { λ r. ⌜ r ≡ b ⌝ }
 {
     b as u64
@@ -120,7 +120,7 @@ pub fn within(most: u64, below: u64, phase: Phase, b: u8) -> Phase
 }
 
 // A negative number is stored as its 64-bit two's complement.
-fn encode(negative: bool, n: u64) -> u64
+pub fn encode(negative: bool, n: u64) -> u64
     ensures { λ r. ⌜ r ≡ encoded negative n ⌝ }
 {
     if negative {
@@ -186,6 +186,22 @@ pub fn is_fresh(phase: Phase) -> bool
     match phase {
         Phase::Fresh => true,
         Phase::Empty => false,
+        Phase::Quote => false,
+        Phase::Minus(_) => false,
+        Phase::Number(_, _, _) => false,
+        Phase::Closed(_, _) => false,
+        Phase::Return => false,
+        Phase::Bad => false,
+    }
+}
+
+// Nothing of a field has come.
+pub fn is_begin(phase: Phase) -> bool
+    ensures { λ t. ⌜ t ≡ begins phase ⌝ }
+{
+    match phase {
+        Phase::Fresh => true,
+        Phase::Empty => true,
         Phase::Quote => false,
         Phase::Minus(_) => false,
         Phase::Number(_, _, _) => false,

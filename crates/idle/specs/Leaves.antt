@@ -1,36 +1,41 @@
 -- IDLE TIMER by words: which timers all leaves at or below a state run.
 use mathlib.Core.Path.{_≡_, refl, sym, ap, _∙_}
 use mathlib.Core.Logic.{_⊎_, inl, inr}
-use Prim.Native.Nat.{ℕ, zero, suc, _+_, _*_, _-_, _/_, _%_, _^_, _<_, _≤_, min}
+use Prim.Native.Nat.{ℕ, zero, suc, _+_, _-_, _/_, _%_, _^_, _<_, _≤_}
 use native.Mathlib.Omega.{arith}
-use native.Mathlib.Decide.{ℕ-discrete}
-use mathlib.Core.Bool.{Bool, true, false, not, _&&_, _||_, false≢true}
+use native.Mathlib.Decide.{ℕ-discrete, decLe}
+use mathlib.Core.Bool.{Bool, true, false, not, _&&_, _||_, Bool·beq, false≢true}
 use mathlib.Core.List.{List}
 use lib.ListN.{length, getD, set}
 use lib.Seq.{getD-set-same, getD-set-other}
-use lib.Bits.{bitAnd, and-step, and-shr}
+use lib.Bits.{bitAnd, bitOr, and-le-l, or-lt}
 use lib.Pow.{pow-lt, ones-split, ones-lt, high}
-use lib.Dec.{eqb, leb, ltb}
-use lib.IntN.{ℤ, natAbs}
-use borrow.Author.Tests.{eq-eqb, ne-eqb, ltb-true, leb-true}
+use lib.Dec.{eqb}
+use lib.IntN.{natAbs}
+use borrow.Author.Tests.{eq-eqb, ne-eqb, eqb-true}
 use Rattle.meaning.specs.Rows.{some, every}
-use Rattle.meaning.specs.RowsLaws.{which, and-l, and-r, and-both, same-test, every-yes, every-intro}
-use Rattle.meaning.specs.Tables.{Tables, mostTimers, mostStates, stateCount, moveCount, initial, source, cell}
-use Rattle.meaning.specs.Hierarchy.{up, atOrAbove, subState, leaf, runs}
-use Rattle.meaning.specs.Literals.{kindOf, inputOn}
-use Rattle.meaning.specs.Check.{initialPasses, runsBelow}
+use Rattle.meaning.specs.RowsLaws.{and-l, and-r, and-both, or-l, or-r, or-cases, same-test, some-yes, some-intro, some-none, every-yes, every-intro}
+use Rattle.meaning.specs.Tables.{Tables, mostDepth, mostStates, mostMoves, literalPlaces, stateCount, moveCount, superState, source, literal}
+use Rattle.meaning.specs.Hierarchy.{up, atOrAbove, leaf, runs}
+use Rattle.meaning.specs.HierarchyLaws.{up-add}
+use Rattle.meaning.specs.Literals.{kindOf, wanted, inputOn}
+use Rattle.meaning.specs.Check.{withinCounts, initialPasses, literalPasses, runsBelow}
 use Rattle.meaning.specs.Rules.{HierarchyRule, MoveRule}
 use Rattle.meaning.specs.declared.Kind.{Kind}
 use Rattle.meaning.specs.declared.Kind.the-variants.{Unused, Input, Timer, Unknown}
 use Rattle.rules.specs.Falling.{Falling}
 use Rattle.pairing.specs.Words.{Tree, PairedWords}
+use Rattle.pairing.specs.WordsLaws.{or-on, and-on, same-bits, root-stays}
+use Rattle.literals.specs.Words.{asksFor, asked, Words}
+use Rattle.literals.specs.WordsLaws.{size-as, known}
 
--- what the later checks know of the states from the earlier ones
+-- what the later checks know from the earlier ones
 pub record Sound (c : Tables) : Type 0 where
   pub initials : (s : ℕ) → s < stateCount c → initialPasses c s ≡ true
   pub hierarchy : (s : ℕ) → s < stateCount c → HierarchyRule c s
   pub falling : Falling c
   pub few : stateCount c ≤ mostStates
+  pub fewMoves : moveCount c ≤ mostMoves
 
 pub tree : (c : Tables) → Sound c → Tree c
 tree c s = record { few = s .few; hierarchy = s .hierarchy }
@@ -47,66 +52,21 @@ leafRuns c n x l = not (leaf c l && atOrAbove c x l) || runs c n l
 
 -- the words of the timers that all leaves at or below each state run
 abbrev pub Below : Tables → List ℕ → Type 0
-Below c ws = (t x : ℕ) → 1 ≤ t → t ≤ 64 → x < mostStates → inputOn (getD ws x 0) t ≡ runsBelow c x (Timer t)
+Below c ws = (t x : ℕ) → 1 ≤ t → t ≤ 64 → x < stateCount c → inputOn (getD ws x 0) t ≡ runsBelow c x (Timer t)
 
 -- the sources are states
 abbrev pub Sources : Tables → Type 0
-Sources c = (i : ℕ) → i < moveCount c → source c i < mostStates
+Sources c = (i : ℕ) → i < moveCount c → source c i < stateCount c
 
 pub source-known : (c : Tables) (i : ℕ) → MoveRule c i → source c i < stateCount c
 unfolding source
 source-known c i m = rw (m .fromKnown .1) (m .fromKnown .2)
 
--- a literal's timer is one of 1 to 32
-pub timer-range : (n t : ℕ) → kindOf n ≡ Timer t → (1 ≤ t) × (t ≤ mostTimers)
-unfolding kindOf
-timer-range n t e = elim (which (eqb n 0)) [
-  | inl p ↦ absurd (apart Unused refl (rw p at e))
-  | inr p ↦ elim (which (leb 1 n && leb n 64)) [
-    | inl q ↦ absurd (apart (Input n) refl (rw (p, q) at e))
-    | inr q ↦ elim (which (leb 101 n && leb n 132)) [
-      | inl r ↦ (let z : n - 100 ≡ t = ap timerOf (rw (p, q, r) at e) in (
-        omega (arith, leb-true 101 n (and-l (leb 101 n) (leb n 132) r), leb-true n 132 (and-r (leb 101 n) (leb n 132) r)),
-        omega (arith, leb-true n 132 (and-r (leb 101 n) (leb n 132) r)),
-      ))
-      | inr r ↦ absurd (apart Unknown refl (rw (p, q, r) at e))
-    ]
-  ]
-]
-  where
-    timerOf : Kind → ℕ
-    timerOf Unused = 0
-    timerOf (Input i) = 0
-    timerOf (Timer u) = u
-    timerOf Unknown = 0
-
-    isTimer : Kind → Bool
-    isTimer Unused = false
-    isTimer (Input i) = false
-    isTimer (Timer u) = true
-    isTimer Unknown = false
-
-    apart : (k : Kind) → isTimer k ≡ false → k ≡ Timer t → ⊥
-    apart k f g = false≢true (sym f ∙ ap isTimer g)
-
 -- ---- words
 
--- the last bit of two numbers' and
-odd : (p x y : ℕ) → x < 2 → y < 2 → eqb ((p * 2 + min x y) % 2) 1 ≡ (eqb x 1 && eqb y 1)
-odd p zero zero h k = ap (λ z. eqb z 1) (let z : (p * 2 + 0) % 2 ≡ 0 = omega arith in z)
-odd p zero (suc zero) h k = ap (λ z. eqb z 1) (let z : (p * 2 + 0) % 2 ≡ 0 = omega arith in z)
-odd p (suc zero) zero h k = ap (λ z. eqb z 1) (let z : (p * 2 + 0) % 2 ≡ 0 = omega arith in z)
-odd p (suc zero) (suc zero) h k = ap (λ z. eqb z 1) (let z : (p * 2 + 1) % 2 ≡ 1 = omega arith in z)
-odd p (suc (suc x)) y h k = absurd (omega arith)
-odd p zero (suc (suc y)) h k = absurd (omega arith)
-odd p (suc zero) (suc (suc y)) h k = absurd (omega arith)
-
--- a bit of a & b
-pub and-on : (a b n : ℕ) → inputOn (bitAnd a b) n ≡ (inputOn a n && inputOn b n)
-unfolding inputOn
-and-on a b n =
-    ap (λ w. eqb (w % 2) 1) (and-shr a b (n - 1) ∙ and-step (a / 2 ^ (n - 1)) (b / 2 ^ (n - 1)))
-    ∙ odd (bitAnd (a / 2 ^ (n - 1) / 2) (b / 2 ^ (n - 1) / 2)) (a / 2 ^ (n - 1) % 2) (b / 2 ^ (n - 1) % 2) (omega arith) (omega arith)
+-- words that have every number
+abbrev pub Full : List ℕ → Type 0
+Full ws = (l : ℕ) → l < length ws → getD ws l 0 ≡ 18446744073709551615
 
 -- every bit of the largest word is on
 pub full-on : (n : ℕ) → 1 ≤ n → n ≤ 64 → inputOn 18446744073709551615 n ≡ true
@@ -127,6 +87,72 @@ every-more p n = same-test (every p 0 (suc n)) (every p 0 n && p n)
       | yes z ↦ rw z (and-r (every p 0 n) (p n) e)
       | no z ↦ every-yes p n (and-l (every p 0 n) (p n) e) k (omega (arith, z))
     ]))
+
+-- ---- the test by words
+
+-- all that is asked is run below: no literal asks for another timer
+module _ (c : Tables) (i x p q r s b : ℕ) (w : Words c i literalPlaces p q r s) (l : literalPasses c i ≡ true) (below : (t : ℕ) → 1 ≤ t → t ≤ 64 → inputOn b t ≡ runsBelow c x (Timer t)) where
+  asked-by : (z : Bool) (t : ℕ) → 1 ≤ t → t ≤ 64 → asked c i literalPlaces z (100 + t) ≡ true → inputOn (bitOr r s) t ≡ true
+  asked-by true t h k e = or-on r s t ∙ or-l (inputOn r t) (inputOn s t) (w .expired t h k ∙ e)
+  asked-by false t h k e = or-on r s t ∙ or-r (inputOn r t) (inputOn s t) (w .unexpired t h k ∙ e)
+
+  there : bitAnd (bitOr r s) b ≡ bitOr r s → (j : ℕ) → j < literalPlaces → runsBelow c x (kindOf (natAbs (literal c i j))) ≡ true
+  unfolding runsBelow
+  there e j h = go (kindOf n) refl
+    where
+      n : ℕ
+      n = natAbs (literal c i j)
+
+      z : Bool
+      z = wanted (literal c i j)
+
+      own-sign : (y : Bool) → Bool·beq y y ≡ true
+      own-sign true = refl
+      own-sign false = refl
+
+      timer : (t : ℕ) → n ≡ 100 + t → 1 ≤ t → t ≤ 64 → runsBelow c x (Timer t) ≡ true
+      timer t f p q =
+          let d = asked-by z t p q (some-intro (λ k. asksFor z (100 + t) (literal c i k)) 0 literalPlaces j (omega arith) (omega arith) (and-both _ _ (eq-eqb n (100 + t) f) (own-sign z))) in
+          sym (below t p q) ∙ and-r (inputOn (bitOr r s) t) (inputOn b t) (sym (and-on (bitOr r s) b t) ∙ ap (λ y. inputOn y t) e ∙ d)
+
+      go : (K : Kind) → kindOf n ≡ K → runsBelow c x (kindOf n) ≡ true
+      go Unused f = rw f
+      go (Input m) f = rw f
+      go (Timer t) f = let g = size-as n (Timer t) f in rw f (timer t (g .0) (g .1) (g .2))
+      go Unknown f = rw f
+
+  back : ((j : ℕ) → j < literalPlaces → runsBelow c x (kindOf (natAbs (literal c i j))) ≡ true) → (t : ℕ) → 1 ≤ t → t ≤ 64 → inputOn (bitOr r s) t ≡ true → inputOn b t ≡ true
+  unfolding withinCounts
+  back f t h k e = elim (or-cases (inputOn r t) (inputOn s t) (sym (or-on r s t) ∙ e)) [
+    | inl d ↦ of true (sym (w .expired t h k) ∙ d)
+    | inr d ↦ of false (sym (w .unexpired t h k) ∙ d)
+  ]
+    where
+      of : (z : Bool) → asked c i literalPlaces z (100 + t) ≡ true → inputOn b t ≡ true
+      of z d = go (kindOf n) refl
+        where
+          y : (k : ℕ) × (0 ≤ k) × (k < 0 + literalPlaces) × (asksFor z (100 + t) (literal c i k) ≡ true)
+          y = some-yes (λ k. asksFor z (100 + t) (literal c i k)) 0 literalPlaces d
+
+          n : ℕ
+          n = natAbs (literal c i (y .0))
+
+          size : n ≡ 100 + t
+          size = eqb-true n (100 + t) (and-l _ _ (y .3))
+
+          go : (K : Kind) → kindOf n ≡ K → inputOn b t ≡ true
+          go Unused g = absurd (omega (arith, size, size-as n Unused g))
+          go (Input m) g = let v = size-as n (Input m) g in absurd (omega (arith, size, v .0, v .2))
+          go (Timer u) g = let v = size-as n (Timer u) g in let o : u ≡ t = omega (arith, size, v .0) in below t h k ∙ sym (ap (λ m. runsBelow c x (Timer m)) o) ∙ ap (runsBelow c x) (sym g) ∙ f (y .0) (omega (arith, y .2))
+          go Unknown g = absurd (false≢true (rw g at (known c i l (y .0) (omega (arith, y .2)))))
+
+  pub idle-words : r < 2 ^ 64 → s < 2 ^ 64 → eqb (bitAnd (bitOr r s) b) (bitOr r s) ≡ every (λ j. runsBelow c x (kindOf (natAbs (literal c i j)))) 0 literalPlaces
+  idle-words hr hs = same-test (eqb (bitAnd (bitOr r s) b) (bitOr r s)) (every (λ j. runsBelow c x (kindOf (natAbs (literal c i j)))) 0 literalPlaces)
+      (λ e. every-intro (λ j. runsBelow c x (kindOf (natAbs (literal c i j)))) literalPlaces (there (eqb-true (bitAnd (bitOr r s) b) (bitOr r s) e)))
+      (λ e. let f = back (every-yes (λ j. runsBelow c x (kindOf (natAbs (literal c i j)))) literalPlaces e) in
+      let small = or-lt 64 r s hr hs in
+      eq-eqb (bitAnd (bitOr r s) b) (bitOr r s) (same-bits 64 (bitAnd (bitOr r s) b) (bitOr r s) (omega (arith, and-le-l (bitOr r s) b)) small
+      (λ n h k. and-on (bitOr r s) b n ∙ same-test (inputOn (bitOr r s) n && inputOn b n) (inputOn (bitOr r s) n) (and-l _ _) (λ d. and-both _ _ d (f n h k d)))))
 
 -- ---- a leaf narrows the words of the states above it
 
@@ -166,3 +192,15 @@ narrow-leaf c n x l a w e f = rw (e, f)
 pub running-at : (c : Tables) (rs : List ℕ) (n l : ℕ) → PairedWords c (c .timerPairs) rs → 1 ≤ n → n ≤ 64 → l < stateCount c → inputOn (getD rs l 0) n ≡ runs c n l
 unfolding runs
 running-at c rs n l r p q h = r n l p q h
+
+-- from the root on the way up stays there
+pub up-to-root : (c : Tables) (l x k : ℕ) → superState c 0 ≡ 0 → k ≤ mostDepth → up c k l ≡ 0 → some (λ j. eqb (up c j l) x) 0 (suc k) ≡ atOrAbove c x l
+unfolding atOrAbove
+up-to-root c l x k e h f = same-test (some (λ j. eqb (up c j l) x) 0 (suc k)) (some (λ j. eqb (up c j l) x) 0 9)
+    (λ p. let r = some-yes (λ j. eqb (up c j l) x) 0 (suc k) p in some-intro (λ j. eqb (up c j l) x) 0 9 (r .0) (omega arith) (omega (arith, r .2)) (r .3))
+    (λ p. let r = some-yes (λ j. eqb (up c j l) x) 0 9 p in elim (decLe (r .0) k) [
+      | yes g ↦ some-intro (λ j. eqb (up c j l) x) 0 (suc k) (r .0) (omega arith) (omega arith) (r .3)
+      | no g ↦ (let z : r .0 ≡ (r .0 - k) + k = omega arith in
+          let y : up c (r .0) l ≡ up c k l = ap (λ j. up c j l) z ∙ up-add c (r .0 - k) k l ∙ ap (up c (r .0 - k)) f ∙ root-stays c e (r .0 - k) ∙ sym f in
+          some-intro (λ j. eqb (up c j l) x) 0 (suc k) k (omega arith) (omega arith) (ap (λ s. eqb s x) (sym y) ∙ r .3))
+    ])

@@ -1,17 +1,16 @@
 // Refusal 9, IDLE TIMER: which timers all leaves at or below a state run, and whether a move asks for another.
-use meaning::Kind;
 use tables::Chart;
 ghost use mathlib.Core.Path.{_≡_};
-ghost use mathlib.Core.Bool.{not, _&&_, _||_};
-ghost use Prim.Native.Nat.{ℕ, _<_, _≤_};
+ghost use mathlib.Core.Bool.{true, not, _&&_, _||_};
+ghost use Prim.Native.Nat.{ℕ, _<_, _≤_, _/_};
 ghost use lib.ListN.{length, getD, set};
 ghost use lib.Bits.{bitAnd};
-ghost use Rattle.meaning.specs.Tables.{Tables, stateCount, source};
+ghost use Rattle.meaning.specs.Tables.{Tables, stateCount, superState, source};
 ghost use Rattle.meaning.specs.Hierarchy.{atOrAbove};
-ghost use Rattle.meaning.specs.Literals.{kindOf, inputOn};
-ghost use Rattle.meaning.specs.Check.{runsBelow, idlePasses};
-ghost use Rattle.meaning.specs.declared.Kind.the-variants;
-ghost use Rattle.idle.specs.Leaves.{Ready, leafRuns, Below};
+ghost use Rattle.meaning.specs.Literals.{inputOn};
+ghost use Rattle.meaning.specs.Check.{literalPasses, idlePasses};
+ghost use Rattle.literals.specs.Words.{WordsAt};
+ghost use Rattle.idle.specs.Leaves.{Ready, leafRuns, Full, Below};
 
 // Of what all leaves below x run so far, what this one runs too.
 fn narrow_at(words: &mut [u64], x: usize, w: u64)
@@ -22,16 +21,19 @@ fn narrow_at(words: &mut [u64], x: usize, w: u64)
     }
 }
 
-// The same at every state at or above l.
+// The same at every state at or above l: the way up ends at the root.
 fn narrow(states: &[u16], w: u64, l: usize, words: &mut [u64])
     ensures long { λ r. ⌜ length (now (words .exit)) ≡ length (now (words .entry)) ⌝ }
-    ensures { λ r. ⌜ ((c : Tables) → c .states ≡ now (states .entry) → (n x : ℕ) → x < length (now (words .entry))
+    ensures { λ r. ⌜ ((c : Tables) → c .states ≡ now (states .entry) → superState c 0 ≡ 0 → (n x : ℕ) → x < length (now (words .entry))
         → inputOn (getD (now (words .exit)) x 0) n ≡ (inputOn (getD (now (words .entry)) x 0) n && (not (atOrAbove c x l) || inputOn w n))) ⌝ }
 {
     let mut s = l;
     let mut k = 0;
     while k <= Chart::DEPTH {
         narrow_at(words, s, w);
+        if s == 0 {
+            return;
+        }
         s = tables::super_state(states, s);
         k += 1;
     }
@@ -58,54 +60,28 @@ fn narrow_leaf(states: &[u16], running: &[u64], l: usize, words: &mut [u64])
     narrow(states, word(running, l), l, words)
 }
 
-// Which timers all leaves at or below each state run, a word a state. It is made once, leaf by leaf, so that a move's timer
-// literal costs one look, and not a search of the leaves.
-pub fn run_below(states: &[u16], running: &[u64]) -> [u64; 256]
-    ensures { λ r. ⌜ ((c : Tables) → Ready c (now (states .entry)) (now (running .entry)) → Below c r) ⌝ }
+// Which timers all leaves at or below each state run, a word a state. It is made once, leaf by leaf, so that a move costs
+// one look, and not a search of the leaves. The words are lent, as many as there are states or more, and have every number.
+pub fn run_below(states: &[u16], running: &[u64], words: &mut [u64])
+    ensures { λ _. ⌜ ((c : Tables) → Ready c (now (states .entry)) (now (running .entry)) → stateCount c ≤ length (now (words .entry)) → Full (now (words .entry)) → Below c (now (words .exit))) ⌝ }
 {
-    let mut words = [18446744073709551615u64; 256];
     let mut l = 0;
     while l < states.len() / 2 {
-        narrow_leaf(states, running, l, &mut words);
+        narrow_leaf(states, running, l, words);
         l += 1;
     }
-    words
 }
 
-fn is_on(w: u64, t: u16) -> bool
-    ensures { λ r. ⌜ (1 ≤ t → t ≤ 64 → r ≡ inputOn w t) ⌝ }
+// "timer literal, but some leaf at or below the source doesn't run it": of the words for what the moves ask, and of those
+// for what is run below each state.
+pub fn idle_passes(moves: &[i16], asks: &[u64], below: &[u64], i: usize) -> bool
+    ensures { λ r. ⌜ ((c : Tables) → c .moves ≡ now (moves .entry) → Below c (now (below .entry)) → source c i < stateCount c → literalPasses c i ≡ true
+        → i < length (now (asks .entry)) / 4 → WordsAt c i (now (asks .entry)) → r ≡ idlePasses c i) ⌝ }
 {
-    if t < 1 {
+    if asks.len() / 4 <= i {
         return false;
     }
-    if 64 < t {
-        return false;
-    }
-    (w >> (t - 1)) % 2 == 1
-}
-
-// "timer literal, but some leaf at or below the source doesn't run it", of the word for the source.
-fn kind_runs(w: u64, kind: Kind) -> bool
-    ensures { λ r. ⌜ ((c : Tables) (s n : ℕ) → ((t : ℕ) → 1 ≤ t → t ≤ 32 → inputOn w t ≡ runsBelow c s (the-variants.Timer t)) → kind ≡ kindOf n → r ≡ runsBelow c s kind) ⌝ }
-{
-    match kind {
-        Kind::Unused => true,
-        Kind::Input(_) => true,
-        Kind::Timer(t) => is_on(w, t),
-        Kind::Unknown => true,
-    }
-}
-
-pub fn idle_passes(moves: &[i16], words: &[u64], i: usize) -> bool
-    ensures { λ r. ⌜ ((c : Tables) → c .moves ≡ now (moves .entry) → Below c (now (words .entry)) → source c i < 256 → r ≡ idlePasses c i) ⌝ }
-{
-    let w = word(words, tables::source(moves, i));
-    let mut j = 0;
-    while j < 8 {
-        if !kind_runs(w, tables::kind(tables::literal(moves, i, j))) {
-            return false;
-        }
-        j += 1;
-    }
-    true
+    let at = 4 * i;
+    let asked = asks[at + 2] | asks[at + 3];
+    asked & word(below, tables::source(moves, i)) == asked
 }

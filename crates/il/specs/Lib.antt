@@ -4,3 +4,4 @@ pub mod QWord
 pub mod Follow
 pub mod Accepted
 pub mod Scans
+pub mod Once

@@ -4,7 +4,7 @@ use meaning::Block;
 ghost use mathlib.Core.Path.{_≡_};
 ghost use lib.ListN.{length, set, drop};
 ghost use Rattle.instruction.specs.Effect.{qsOf};
-ghost use Rattle.il.specs.Scans.{holding, OneScan, ManyScans};
+ghost use Rattle.il.specs.Scans.{holding, OneScan};
 ghost use Rattle.il.specs.Advance.{Goes};
 ghost use Rattle.il.specs.Run.{advanced, resumed, fresh};
 
@@ -27,9 +27,9 @@ pub fn advance(words: &[u32], ff: &mut [u8], x: u64, count: usize, p: Stop) -> S
     let mut at = p.at;
     let mut s = p.running;
     while at < words.len() {
-        let d = decode::decode(words[at]);
+        let w = words[at];
         at += 1;
-        let k = instruction::block_due(count, d);
+        let k = instruction::word_due(count, w);
         if k < count {
             return Stop {
                 at: at,
@@ -40,7 +40,7 @@ pub fn advance(words: &[u32], ff: &mut [u8], x: u64, count: usize, p: Stop) -> S
                 running: s,
             };
         }
-        s = instruction::run_one(ff, x, d, s);
+        s = instruction::run_word(ff, x, w, s);
     }
     Stop {
         at: at,
@@ -146,27 +146,4 @@ pub fn put_word(results: &mut [u64], i: usize, w: u64)
     if i < results.len() {
         results[i] = w;
     }
-}
-
-// One scan for each input word, with the blocks by value.
-pub fn run_core(
-    words: &[u32],
-    step: u32,
-    inputs: &[u64],
-    results: &mut [u64],
-    ff: &mut [u8],
-    row: [Block; 32],
-) -> [Block; 32]
-    ensures { λ r. ⌜ ManyScans step (now (words .entry)) (now (inputs .entry)) (holding (now (ff .entry)) row) (holding (now (ff .exit)) r) (now (results .entry)) (now (results .exit)) ⌝ }
-{
-    let mut bs = row;
-    let mut i = 0;
-    while i < inputs.len() {
-        let t = scan_core(words, step, inputs[i], ff, bs);
-        put_word(results, i, t.outputs);
-        let next = t.blocks;
-        bs = next;
-        i += 1;
-    }
-    bs
 }

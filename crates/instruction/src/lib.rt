@@ -5,10 +5,12 @@ use meaning::Operand;
 use meaning::Operator;
 ghost use mathlib.Core.Path.{_≡_};
 ghost use mathlib.Core.Bool.{_&&_, cond};
-ghost use Prim.Native.Nat.{_-_};
+ghost use Prim.Native.Nat.{_-_, min};
 ghost use lib.ListN.{set};
 ghost use Rattle.meaning.specs.Literals.{inputOn};
 ghost use Rattle.meaning.specs.Scan.{flipFlopOn, ton};
+ghost use Rattle.format.specs.Decode.{decoded};
+ghost use Rattle.instruction.specs.Numbers.{Seen, wantedBy, testedBy, storedBy};
 ghost use Rattle.instruction.specs.Effect.{bitOn, withBit, valueIn, loaded, opened, closed, timed, withOn, withTimeAsPt, withOutputs, storedTo, evaluated, put, acted, running, flipFlops, blockOf, calledBy, due, calledWith};
 
 // What a scan keeps by value: the result, what a bracket has put aside, the time loaded last, the IN and PT stored last,
@@ -78,6 +80,12 @@ fn flip_flop(ff: &[u8], n: u16) -> bool
     false
 }
 
+fn as_number(v: bool) -> u32
+    ensures { λ r. ⌜ r ≡ cond v 1 0 ⌝ }
+{
+    if v { 1 } else { 0 }
+}
+
 // What a test reads.
 fn value(ff: &[u8], x: u64, qs: u64, o: Operand) -> bool
     ensures { λ r. ⌜ r ≡ valueIn x qs (now (ff .entry)) o ⌝ }
@@ -93,6 +101,16 @@ fn value(ff: &[u8], x: u64, qs: u64, o: Operand) -> bool
         Operand::False => false,
         Operand::True => true,
     }
+}
+
+// LDN and ANDN want what they test off.
+fn wanted(k: u32, v: bool) -> bool
+    ensures { λ r. ⌜ r ≡ wantedBy k v ⌝ }
+{
+    if k % 2 == 0 {
+        return !v;
+    }
+    v
 }
 
 impl Running {
@@ -111,6 +129,16 @@ impl Running {
             return self.load(v);
         }
         self.load(false)
+    }
+
+    // LD, LDN, AND, ANDN (1 to 4) of what reads v.
+    fn test(self, k: u32, v: bool) -> Running
+        ensures { λ r. ⌜ r ≡ loaded (testedBy k (self .result) v) self ⌝ }
+    {
+        if k < 3 {
+            return self.load(wanted(k, v));
+        }
+        self.and(wanted(k, v))
     }
 
     // OR( puts the result aside ..
@@ -293,7 +321,7 @@ fn change(ff: &mut [u8], i: Operator, v: bool)
 }
 
 // One word; one that is no instruction does nothing.
-pub fn run_one(ff: &mut [u8], x: u64, d: Decoded, s: Running) -> Running
+fn run_one(ff: &mut [u8], x: u64, d: Decoded, s: Running) -> Running
     ensures { λ r. ⌜ (r ≡ running x (now (ff .entry)) d s) × (now (ff .exit) ≡ flipFlops d (s .result) (now (ff .entry))) ⌝ }
 {
     match d {
@@ -305,6 +333,118 @@ pub fn run_one(ff: &mut [u8], x: u64, d: Decoded, s: Running) -> Running
         }
         Decoded::Unknown => s,
     }
+}
+
+// What a test of operand number m reads, 1 for on; 2 where it is no operand of the usual tests.
+fn seen(ff: &[u8], x: u64, qs: u64, m: u32) -> u32
+    ensures { λ r. ⌜ Seen x qs (now (ff .entry)) m r ⌝ }
+{
+    if m < 256 {
+        return as_number(flip_flop(ff, m as u16));
+    }
+    if m < 449 {
+        if 384 < m {
+            return as_number(is_on(x, (m - 384) as u16));
+        }
+        return 2;
+    }
+    if 768 < m {
+        if m < 801 {
+            return as_number(is_on(qs, (m - 768) as u16));
+        }
+    }
+    2
+}
+
+// ST, S, R (7 to 9) of %MXn on the result v.
+fn store_by(ff: &mut [u8], k: u32, n: u16, v: bool)
+    ensures { λ _. ⌜ now (ff .exit) ≡ storedBy k n v (now (ff .entry)) ⌝ }
+{
+    if k < 8 {
+        let i = n as usize;
+        set_or_reset(ff, i, v);
+    } else {
+        if v {
+            act_on(ff, n, k < 9);
+        }
+    }
+}
+
+// ST of an output, of IN and of PT and LD of a time by the word's two numbers, any other word by what it decodes to.
+fn run_rest(ff: &mut [u8], x: u64, w: u32, s: Running) -> Running
+    ensures { λ r. ⌜ (r ≡ running x (now (ff .entry)) (decoded w) s) × (now (ff .exit) ≡ flipFlops (decoded w) (s .result) (now (ff .entry))) ⌝ }
+{
+    let k = w / 134217728;
+    let m = w % 134217728;
+    if k == 7 {
+        if m < 577 {
+            if 512 < m {
+                return s.store_output((m - 512) as u16);
+            }
+        } else {
+            if m < 1057 {
+                if 1024 < m {
+                    return s.store_in();
+                }
+            } else {
+                if 1280 < m {
+                    if m < 1313 {
+                        return s.store_pt();
+                    }
+                }
+            }
+        }
+    } else {
+        if k == 11 {
+            if 0 < m {
+                if m < 86400001 {
+                    return s.load_time(m);
+                }
+            }
+        }
+    }
+    run_one(ff, x, decode::decode(w), s)
+}
+
+// One word: tests, brackets and stores in flip-flops by its two numbers.
+pub fn run_word(ff: &mut [u8], x: u64, w: u32, s: Running) -> Running
+    ensures { λ r. ⌜ (r ≡ running x (now (ff .entry)) (decoded w) s) × (now (ff .exit) ≡ flipFlops (decoded w) (s .result) (now (ff .entry))) ⌝ }
+{
+    let k = w / 134217728;
+    let m = w % 134217728;
+    let qs = s.qs;
+    let result = s.result;
+    if k < 5 {
+        let v = seen(ff, x, qs, m);
+        if 0 < k {
+            if v < 2 {
+                return s.test(k, v == 1);
+            }
+        }
+    } else {
+        if m < 256 {
+            if 6 < k {
+                if k < 10 {
+                    store_by(ff, k, m as u16, result);
+                    return s;
+                }
+            } else {
+                if m < 1 {
+                    if k < 6 {
+                        return s.put_aside();
+                    }
+                    return s.or_aside();
+                }
+            }
+        }
+    }
+    run_rest(ff, x, w, s)
+}
+
+fn least(a: usize, b: usize) -> usize
+    ensures { λ r. ⌜ r ≡ min a b ⌝ }
+{
+    if a < b { a } else { b }
 }
 
 fn block_of(count: usize, o: Operand) -> usize
@@ -354,8 +494,24 @@ pub fn block_due(count: usize, d: Decoded) -> usize
     }
 }
 
+// The same of a word.
+pub fn word_due(count: usize, w: u32) -> usize
+    ensures { λ r. ⌜ r ≡ due count (decoded w) ⌝ }
+{
+    let m = w % 134217728;
+    if w / 134217728 == 10 {
+        if 1536 < m {
+            if m < 1569 {
+                return least((m - 1537) as usize, count);
+            }
+        }
+        return block_due(count, decode::decode(w));
+    }
+    count
+}
+
 // "IN off gives ET 0, Q off; IN on after off gives ET 0; IN on after on adds one scan step, up to PT; Q when ET reaches PT"
-pub fn ton(b: Block, step: u32) -> Block
+fn ton(b: Block, step: u32) -> Block
     ensures { λ r. ⌜ r ≡ ton step b ⌝ }
 {
     let on = b.on;

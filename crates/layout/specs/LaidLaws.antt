@@ -4,7 +4,7 @@ use mathlib.Core.Path.{_≡_, refl, sym, ap, _∙_}
 use mathlib.Core.Logic.{_≢_, inl, inr}
 use mathlib.Core.Bool.{Bool, true, false, cond, and-false}
 use mathlib.Core.List.{List, []}
-use native.Mathlib.Nat.{zero-add, add-zero}
+use native.Mathlib.Nat.{zero-add, add-zero, le-trans}
 use native.Mathlib.Omega.{arith}
 use native.Mathlib.Decide.{ℕ-discrete, decLe}
 use lib.ListN.{length, getD, set, replicate, length-set, getD-replicate}
@@ -205,8 +205,17 @@ tally-width c a h =
     let l = laid-some c a h in
     ap width (tally-at (subState c) (laidStates c) a (omega (arith, laid-all c l)) ∙ ap (count (subState c a)) (laid-all c l))
 
+-- no state of those laid out has more sub-states than there are states
+pub few-subs : {l counts : List ℕ} → ((c : Tables) → c .states ≡ l → counts ≡ tally (subState c) (laidStates c)) → (a : ℕ) → a < 256 → getD counts a 0 ≤ 256
+few-subs {l} f a h = let t = statesOnly l in rw (f t refl) (le-trans (tally-le (subState t) (laidStates t) a h) (laid-most t))
+
 pub width-small : (n : ℕ) → n ≤ 256 → width n ≤ 8
 width-small n h = width-least n .least 8 h
+
+-- those of all states
+pub all-flip-flops : (c : Tables) → stateCount c ≤ 256 → groupFirst c (laidStates c) ≡ flipFlops c
+unfolding flipFlops
+all-flip-flops c h = rw (laid-all c h)
 
 -- ---- what a layout says
 
@@ -234,5 +243,4 @@ module _ (c : Tables) (l : Layout) (o : LaidOut c l) (fits : stateCount c ≤ 25
       rw (o .code, laid-all c fits) (row-in (givenCode c) (stateCount c) s (omega arith) k ∙ given c s (r .notRoot) k (omega arith))
 
   pub total-is : l .total ≡ flipFlops c
-  unfolding flipFlops
-  total-is = rw (o .total, laid-all c fits)
+  total-is = o .total ∙ all-flip-flops c fits

@@ -7,7 +7,7 @@ ghost use lib.ListN.{length};
 ghost use Rattle.meaning.specs.Rows.{least, count};
 ghost use Rattle.meaning.specs.Tables.{Tables, stateCount};
 ghost use Rattle.meaning.specs.Hierarchy.{subState};
-ghost use Rattle.meaning.specs.Layout.{width, other};
+ghost use Rattle.meaning.specs.Layout.{width, groupFirst, other};
 ghost use Rattle.meaning.specs.Lent.{coded};
 ghost use Rattle.layout.specs.Laid.{laidStates, givenCode, row, tally, LaidOut};
 
@@ -20,7 +20,7 @@ pub struct Layout {
 }
 
 // "A super-state with n sub-states gets the number of significant bits of n - 1: 0 for n = 1." A leaf's group is empty too.
-pub fn width(n: usize) -> u32
+fn width(n: usize) -> u32
     ensures { λ r. ⌜ r ≡ width n ⌝ }
 {
     if n <= 1 {
@@ -132,6 +132,21 @@ pub fn lay_out(states: &[u16]) -> Layout
     }
 }
 
+// How many flip-flops there are, where nothing else of the layout is asked for.
+pub fn flip_flops(states: &[u16]) -> u32
+    ensures { λ r. ⌜ ((c : Tables) → c .states ≡ now (states .entry) → r ≡ groupFirst c (laidStates c)) ⌝ }
+{
+    let n = laid_states(states);
+    let counts = sub_states_each(states);
+    let mut many: u32 = 0;
+    let mut a = 0;
+    while a < n {
+        many += width(counts[a] as usize);
+        a += 1;
+    }
+    many
+}
+
 // Whether s is a sub-state of a that is not the initial one.
 fn other(states: &[u16], a: usize, s: usize) -> bool
     ensures { λ r. ⌜ ((c : Tables) → c .states ≡ now (states .entry) → r ≡ other c a s) ⌝ }
@@ -174,4 +189,11 @@ pub fn sub_with_code(states: &[u16], a: usize, k: usize) -> usize
         s += 1;
     }
     s
+}
+
+// The code of each sub-state alone, for those who ask for no group.
+pub fn codes_of(states: &[u16]) -> [u16; 256]
+    ensures { λ r. ⌜ ((c : Tables) → c .states ≡ now (states .entry) → r ≡ row (givenCode c) (laidStates c)) ⌝ }
+{
+    codes_each(states)
 }

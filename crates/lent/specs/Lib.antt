@@ -1,3 +1,4 @@
 pub mod Slice
 pub mod SliceLaws
 pub mod RunLaws
+pub mod Once

@@ -1,34 +1,33 @@
 -- Codes that pass stand for a memory, and the code's tests are the definition's.
 use mathlib.Core.Path.{_≡_, refl, sym, ap, ap₂, _∙_}
-use mathlib.Core.Logic.{_≢_, inl, inr}
-use Prim.Native.Nat.{ℕ, zero, suc, _+_, _-_, _≤_, _<_}
+use mathlib.Core.Logic.{_≢_, _⊎_, inl, inr}
+use Prim.Native.Nat.{ℕ, zero, suc, _+_, _-_, _/_, _≤_, _<_}
 use native.Mathlib.Omega.{arith}
 use native.Mathlib.Nat.{zero-add}
-use native.Mathlib.Decide.{decLe}
+use native.Mathlib.Decide.{decLe, ℕ-discrete}
 use mathlib.Core.Bool.{Bool, true, false, not, cond, true≢false, and-false}
 use mathlib.Core.List.{List, [], _∷_, _++_, append-assoc, append-nil}
-use lib.ListN.{length, getD, take, drop, length-drop}
-use lib.Seq.{getD-take, getD-drop, length-take-le, ext-getD}
+use lib.ListN.{length, getD, set, take, drop, replicate, length-drop, length-replicate}
+use lib.Seq.{getD-set-same, getD-set-other, getD-take, getD-drop, length-take-le, ext-getD}
 use lib.Dec.{eqb, ltb}
 use borrow.Author.Tests.{eq-eqb, ne-eqb, lt-ltb, le-ltb, eqb-true, ltb-true}
 use Rattle.meaning.specs.Rows.{least, some, every, count}
-use Rattle.meaning.specs.RowsLaws.{which, and-l, some-no, some-yes, least-to, least-before, least-passes, least-none, every-yes, count-past, length-table, some-same}
-use Rattle.meaning.specs.Tables.{Tables, stateCount, timerCount, preset, steps, initial}
-use Rattle.meaning.specs.Hierarchy.{leaf, runs}
-use Rattle.meaning.specs.HierarchyLaws.{sub-state-tells}
-use Rattle.meaning.specs.Layout.{code}
+use Rattle.meaning.specs.RowsLaws.{which, false-by, and-l, some-no, some-yes, least-before, least-passes, least-none, every-yes, count-past, length-table, some-same, getD-equal}
+use Rattle.meaning.specs.Tables.{Tables, stateCount, moveCount, timerCount, preset, steps, superState, initial}
+use Rattle.meaning.specs.Hierarchy.{subState, leaf, paired, runs}
+use Rattle.meaning.specs.HierarchyLaws.{sub-state-tells, leaf-tells}
+use Rattle.meaning.specs.Layout.{groupWidth, groupFirst, code}
+use Rattle.meaning.specs.Literals.{inputOn}
 use Rattle.meaning.specs.Rules.{Rules}
 use Rattle.meaning.specs.RuleLaws as rule
 use Rattle.meaning.specs.FollowLaws.{super-known}
 use Rattle.meaning.specs.Machine.{remembered, timerValue, activeLeaf}
 use Rattle.meaning.specs.MachineLaws.{Sound, remembered-table}
 use Rattle.meaning.specs.Lent.{superStatesBelow, lentLength, coded, lentCode, lentMemory, stateOf, lentCodes, codePasses, timerPasses, statePasses}
-use Rattle.paths.specs.Flags.{Paired}
-use Rattle.paths.specs.FlagsLaws.{remembered-take}
-use Rattle.layout.specs.Laid.{LaidOut}
+use Rattle.paths.specs.FlagsLaws.{remembered-take, is-table}
+use Rattle.layout.specs.Laid.{laidStates, givenCode, row}
 use Rattle.layout.specs.LaidLaws.{code-at}
-use Rattle.layout.specs.declared.Layout.{Layout}
-use Rattle.lent.specs.Slice.{codeIn, codesIn, entryOf, rowPasses}
+use Rattle.lent.specs.Slice.{codeIn, codesIn, entryOf, Codes, Wanted, foundFrom, Found, rowPasses, Room}
 
 -- ---- rows
 
@@ -70,6 +69,59 @@ unfolding codesIn lentCodes
 codes-same c cs m m′ zero h = refl
 codes-same c cs m m′ (suc n) h = ap₂ _++_ (codes-same c cs m m′ n (λ a z. h a (omega arith))) (sym (h n (omega arith))) ∙ sym (codes-snoc c m′ 0 n ∙ rw (zero-add n))
 
+-- what has a sub-state is no leaf
+no-leaf : (c : Tables) (a s : ℕ) → subState c a s ≡ true → leaf c a ≡ false
+no-leaf c a s e = false-by (leaf c a) (λ f. leaf-tells c a .0 f s (sub-state-tells c a s .0 e))
+
+-- a state is under no other than its super-state, and the root under none
+pub coded-else : (c : Tables) (a k s : ℕ) → (s ≡ 0) ⊎ (a ≢ superState c s) → coded c a k s ≡ false
+unfolding coded
+coded-else c a k s h = false-by (coded c a k s) (λ e. let t = sub-state-tells c a s .0 (and-l _ _ e) in elim h [ inl z ↦ t .notRoot z | inr n ↦ n (sym (t .under)) ])
+
+-- under its super-state it is the one with its code
+pub coded-own : (c : Tables) (k s : ℕ) → s ≢ 0 → s < stateCount c → coded c (superState c s) k s ≡ eqb (code c s) k
+unfolding coded
+coded-own c k s n h = rw (sub-state-tells c (superState c s) s .1 (record { notRoot = n; known = h; under = refl }))
+
+-- slices of n places a state, all 0
+pub zero-room : (c : Tables) (n : ℕ) (asks : List ℕ) → stateCount c ≤ n → moveCount c ≤ length asks / 4 → Room c (replicate n 0) (replicate n 0) (replicate n 0) (replicate n 0) asks
+zero-room c n asks h k = record {
+  state = record { wantsRoom = room; memoryRoom = room; timersRoom = refl; runsRoom = room; noMemory = getD-equal 0 n; noRuns = getD-equal 0 n };
+  scans = record { showsRoom = room; asksRoom = k; noShows = getD-equal 0 n };
+}
+  where
+    room : stateCount c ≤ length (replicate {A = ℕ} n 0)
+    room = rw (length-replicate {A = ℕ} n 0) h
+
+-- the code of one super-state more, and no sub-state for it; a leaf has neither
+module _ (c : Tables) (a : ℕ) where
+  pub wanted-more : (l ws : List ℕ) → a < length ws → Wanted c l a ws → Wanted c l (suc a) (cond (leaf c a) ws (set ws a (lentCode c l a)))
+  wanted-more l ws h w j y f = elim (ℕ-discrete j a) [
+    | yes e ↦ (let g : leaf c a ≡ false = rw e at f in rw (e, g) (getD-set-same ws a (lentCode c l a) 0 h))
+    | no d ↦ elim (which (leaf c a)) [
+      | inl g ↦ rw g (w j (omega arith) f)
+      | inr g ↦ rw g (getD-set-other ws a j (lentCode c l a) 0 d ∙ w j (omega arith) f)
+    ]
+  ]
+
+  pub unfound-more : (m : List ℕ) (n : ℕ) → a < length m → ((j : ℕ) → j < a → getD m j 0 ≡ cond (leaf c j) 0 n) → ((j : ℕ) → a ≤ j → getD m j 0 ≡ 0)
+      → (j : ℕ) → j < suc a → getD (cond (leaf c a) m (set m a n)) j 0 ≡ cond (leaf c j) 0 n
+  unfound-more m n h p q j y = elim (which (leaf c a)) [
+    | inl g ↦ elim (ℕ-discrete j a) [ yes e ↦ rw (e, g) (q a (omega arith)) | no d ↦ rw g (p j (omega arith)) ]
+    | inr g ↦ elim (ℕ-discrete j a) [ yes e ↦ rw (e, g) (getD-set-same m a n 0 h) | no d ↦ rw g (getD-set-other m a j n 0 d ∙ p j (omega arith)) ]
+  ]
+
+  pub unfound-rest : (m : List ℕ) (n : ℕ) → ((j : ℕ) → a ≤ j → getD m j 0 ≡ 0) → (j : ℕ) → suc a ≤ j → getD (cond (leaf c a) m (set m a n)) j 0 ≡ 0
+  unfound-rest m n q j y = elim (which (leaf c a)) [
+    | inl g ↦ rw g (q j (omega arith))
+    | inr g ↦ rw g (getD-set-other m a j n 0 (λ z. omega arith) ∙ q j (omega arith))
+  ]
+
+-- the codes alone, as the layout has them
+pub codes-given : (c : Tables) → stateCount c ≤ 256 → (cs : List ℕ) → cs ≡ row (givenCode c) (laidStates c) → Codes c cs
+codes-given c h cs e = code-at c (record { first = row (groupFirst c) (laidStates c); width = row (groupWidth c) (laidStates c); code = cs; total = groupFirst c (laidStates c) })
+    (record { first = refl; width = refl; code = e; total = refl }) h
+
 module _ (c : Tables) (R : Rules c) where
   pub leaf-initial : (a : ℕ) → a < stateCount c → leaf c a ≡ eqb (initial c a) 0
   leaf-initial a h = rule.leaf-initial c a (rule.initial-tells c a .1 (R .initials a h))
@@ -80,12 +132,6 @@ module _ (c : Tables) (R : Rules c) where
   code-passes l a = elim (which (leaf c a)) [
     | inl e ↦ rw e (sym (lt-ltb 0 (stateCount c) (R .size .someState)))
     | inr e ↦ rw e (some-least (coded c a (lentCode c l a)) (stateCount c))
-  ]
-
-  pub entry-most : (l : List ℕ) (a : ℕ) → entryOf c l a ≤ 256
-  entry-most l a = elim (which (leaf c a)) [
-    | inl e ↦ rw e (omega arith)
-    | inr e ↦ rw e (omega (arith, least-to (coded c a (lentCode c l a)) 0 (stateCount c), R .size .fewStates))
   ]
 
   -- codes that pass stand for a memory
@@ -102,10 +148,62 @@ module _ (c : Tables) (R : Rules c) where
     leafEntries = (λ a h n. remembered-table (entryOf c l) (stateCount c) a h ∙ rw n);
   }
 
+  -- ---- what the states give to remember, from the last on
+
+  -- no state has been looked at
+  pub found-none : (l : List ℕ) (a : ℕ) → foundFrom c l (stateCount c) a ≡ cond (leaf c a) 0 (stateCount c)
+  unfolding least
+  found-none l a = let z : stateCount c - stateCount c ≡ 0 = omega arith in rw z
+
+  -- one state more: it counts where it has the code
+  found-more : (l : List ℕ) (s a : ℕ) → s < stateCount c → foundFrom c l s a ≡ cond (leaf c a) 0 (cond (coded c a (lentCode c l a) s) s (least (coded c a (lentCode c l a)) (suc s) (stateCount c - suc s)))
+  unfolding least
+  found-more l s a h = let z : stateCount c - s ≡ suc (stateCount c - suc s) = omega arith in
+      rw z (elim (which (coded c a (lentCode c l a) s)) [ inl e ↦ rw (least, e) | inr e ↦ rw (least, e) ])
+
+  -- it is no sub-state of a with that code
+  pub found-past : (l : List ℕ) (s a : ℕ) → s < stateCount c → coded c a (lentCode c l a) s ≡ false → foundFrom c l (suc s) a ≡ foundFrom c l s a
+  found-past l s a h e = sym (found-more l s a h ∙ rw e)
+
+  -- it is
+  pub found-here : (l : List ℕ) (s a : ℕ) → s < stateCount c → coded c a (lentCode c l a) s ≡ true → foundFrom c l s a ≡ s
+  unfolding coded
+  found-here l s a h e = found-more l s a h ∙ rw (no-leaf c a s (and-l _ _ e), e)
+
+  -- the super-state of a state is a state
+  pub super-of : (s : ℕ) → s ≢ 0 → s < stateCount c → superState c s < stateCount c
+  super-of s n h = super-known c R (superState c s) (no-leaf c (superState c s) s (sub-state-tells c (superState c s) s .1 (record { notRoot = n; known = h; under = refl })))
+
+  -- whether it has the code that is wanted, by the arrays
+  pub own-coded : (l cs ws : List ℕ) (s : ℕ) → s ≢ 0 → s < stateCount c → Codes c cs → Wanted c l (stateCount c) ws
+      → coded c (superState c s) (lentCode c l (superState c s)) s ≡ eqb (getD cs s 0) (getD ws (superState c s) 0)
+  own-coded l cs ws s n h C W =
+      let a = superState c s in
+      let u : subState c a s ≡ true = sub-state-tells c a s .1 (record { notRoot = n; known = h; under = refl }) in
+      rw (C a s (super-of s n h) u, W a (super-of s n h) (no-leaf c a s u)) (coded-own c (lentCode c l a) s n h)
+
+  -- it has, and is remembered
+  pub found-set : (l m : List ℕ) (s : ℕ) → s < stateCount c → coded c (superState c s) (lentCode c l (superState c s)) s ≡ true → superState c s < length m
+      → Found c l (suc s) m → Found c l s (set m (superState c s) s)
+  found-set l m s h t k F j z = elim (ℕ-discrete j (superState c s)) [
+    | yes e ↦ rw e (getD-set-same m (superState c s) s 0 k ∙ sym (found-here l s (superState c s) h t))
+    | no d ↦ getD-set-other m (superState c s) j s 0 d ∙ F j z ∙ found-past l s j h (coded-else c j (lentCode c l j) s (inr d))
+  ]
+
+  -- it has not, and nothing changes
+  pub found-keep : (l m : List ℕ) (s : ℕ) → s < stateCount c → coded c (superState c s) (lentCode c l (superState c s)) s ≡ false → Found c l (suc s) m → Found c l s m
+  found-keep l m s h t F j z = F j z ∙ found-past l s j h (elim (ℕ-discrete j (superState c s)) [ yes e ↦ rw e t | no d ↦ coded-else c j (lentCode c l j) s (inr d) ])
+
+  -- all states have been looked at
+  pub found-all : (l m : List ℕ) → stateCount c ≤ length m → Found c l 0 m → take (stateCount c) m ≡ lentMemory c l
+  unfolding lentMemory
+  found-all l m n f = is-table (entryOf c l) 0 (stateCount c) (take (stateCount c) m) (length-take-le (stateCount c) m n)
+      (λ k h. let z : stateCount c - 0 ≡ stateCount c = omega arith in rw (zero-add k) (getD-take (stateCount c) m k 0 h ∙ rw z at (f k h)))
+
   -- ---- timers
 
   -- an array that holds the slice's values
-  pub timers-held : (l ts : List ℕ) → length l ≡ lentLength c → length ts ≡ 32 → ((i : ℕ) → i < 32 → getD ts i 0 ≡ getD l (superStatesBelow c (stateCount c) + i) 0)
+  pub timers-held : (l ts : List ℕ) → length l ≡ lentLength c → length ts ≡ 32 → ((i : ℕ) → i < timerCount c → getD ts i 0 ≡ getD l (superStatesBelow c (stateCount c) + i) 0)
       → take (timerCount c) ts ≡ drop (superStatesBelow c (stateCount c)) l
   unfolding lentLength
   timers-held l ts e n f =
@@ -115,17 +213,18 @@ module _ (c : Tables) (R : Rules c) where
       (λ i h. getD-take (timerCount c) ts i 0 (omega arith) ∙ f i (omega arith) ∙ sym (getD-drop (superStatesBelow c (stateCount c)) l i 0))
 
   -- the rows that the code looks at are the timers
-  pub rows-pass : (l ts rs : List ℕ) → take (timerCount c) ts ≡ drop (superStatesBelow c (stateCount c)) l → Paired c (c .timerPairs) (activeLeaf c (lentMemory c l)) rs
-      → every (rowPasses (c .step) (c .presets) rs ts) 0 (timerCount c) ≡ every (timerPasses c (stateOf c l)) 1 (timerCount c)
+  pub rows-pass : (l ts : List ℕ) (w : ℕ) → take (timerCount c) ts ≡ drop (superStatesBelow c (stateCount c)) l
+      → ((n : ℕ) → n < 64 → inputOn w (suc n) ≡ paired c (c .timerPairs) (suc n) (activeLeaf c (lentMemory c l)))
+      → every (rowPasses (c .step) (c .presets) w ts) 0 (timerCount c) ≡ every (timerPasses c (stateOf c l)) 1 (timerCount c)
   unfolding timerPasses stateOf timerValue steps preset runs
-  rows-pass l ts rs e p = ap not (some-same (λ k. not (rowPasses (c .step) (c .presets) rs ts k)) (λ k. not (timerPasses c (stateOf c l) (suc k))) 0 (timerCount c) (λ k a b. ap not (row k (omega arith)))
+  rows-pass l ts w e p = ap not (some-same (λ k. not (rowPasses (c .step) (c .presets) w ts k)) (λ k. not (timerPasses c (stateOf c l) (suc k))) 0 (timerCount c) (λ k a b. ap not (row k (omega arith)))
       ∙ sym (some-shift (λ k. not (timerPasses c (stateOf c l) k)) 0 (timerCount c)))
     where
-      row : (k : ℕ) → k < timerCount c → rowPasses (c .step) (c .presets) rs ts k ≡ timerPasses c (stateOf c l) (suc k)
+      row : (k : ℕ) → k < timerCount c → rowPasses (c .step) (c .presets) w ts k ≡ timerPasses c (stateOf c l) (suc k)
       row k h = unfold timerPasses stateOf timerValue steps preset runs in (
           let few = R .size .fewTimers in
           let z : suc k - 1 ≡ k = omega arith in
-          rw (z, ← e, getD-take (timerCount c) ts k 0 h, p (suc k) (omega arith)))
+          rw (z, ← e, getD-take (timerCount c) ts k 0 h, p k (omega arith)))
 
   -- ---- 14 STATE
 
@@ -159,9 +258,9 @@ module _ (c : Tables) (R : Rules c) where
   code-room a h e = count-past (λ b. not (leaf c b)) a (stateCount c) h (rw e)
 
   -- an array of codes and one of what is remembered give the codes of the state
-  pub codes-lent : (m : List ℕ) (l : Layout) → LaidOut c l → Sound c (take (stateCount c) m) → codesIn c (l .code) m (stateCount c) ≡ lentCodes c (take (stateCount c) m) 0 (stateCount c)
-  codes-lent m l o S = codes-same c (l .code) m (take (stateCount c) m) (stateCount c) (λ a h. elim (which (leaf c a)) [
+  pub codes-lent : (m cs : List ℕ) → Codes c cs → Sound c (take (stateCount c) m) → codesIn c cs m (stateCount c) ≡ lentCodes c (take (stateCount c) m) 0 (stateCount c)
+  codes-lent m cs k S = codes-same c cs m (take (stateCount c) m) (stateCount c) (λ a h. elim (which (leaf c a)) [
     | inl e ↦ rw e
     | inr e ↦ (let b = rw (remembered-take m (stateCount c) a h) at (S .leads a e) in
-        rw (e, remembered-take m (stateCount c) a h, code-at c l o (R .size .fewStates) a (remembered m a) h (sub-state-tells c a (remembered m a) .1 b)))
+        rw (e, remembered-take m (stateCount c) a h, k a (remembered m a) h (sub-state-tells c a (remembered m a) .1 b)))
   ])

@@ -1,12 +1,11 @@
 // The chart state as it is lent: one slice, a code for each super-state by rising number, then a value in ms for each timer;
 // and the run over it. The tables have passed the check; on other tables all of this is harmless.
-use machine::Machine;
 use meaning::Refusal;
 use tables::Chart;
 ghost use mathlib.Core.Path.{_≡_};
-ghost use mathlib.Core.Bool.{cond, false};
-ghost use mathlib.Core.List.{[], _∷_, _++_};
-ghost use Prim.Native.Nat.{ℕ, _+_, _<_, _≤_};
+ghost use mathlib.Core.Bool.{cond, true, false};
+ghost use mathlib.Core.List.{List, _++_};
+ghost use Prim.Native.Nat.{ℕ, suc, _+_, _<_, _≤_, _/_};
 ghost use lib.ListN.{length, getD, set, take};
 ghost use lib.Dec.{ltb};
 ghost use Rattle.meaning.specs.Rows.{every};
@@ -14,10 +13,9 @@ ghost use Rattle.meaning.specs.Tables.{Tables, stateCount};
 ghost use Rattle.meaning.specs.Hierarchy.{leaf};
 ghost use Rattle.meaning.specs.Rules.{Rules};
 ghost use Rattle.meaning.specs.Machine.{remembered, Valid};
-ghost use Rattle.meaning.specs.MachineLaws.{Sound};
-ghost use Rattle.meaning.specs.Lent.{superStatesBelow, lentLength, lentMemory, stateOf, lentCodes, lentOf, statePasses};
+ghost use Rattle.meaning.specs.Lent.{superStatesBelow, lentLength, lentMemory, lentOf, statePasses};
 ghost use Rattle.machine.specs.Held.{held, Given};
-ghost use Rattle.lent.specs.Slice.{codeIn, codesIn, entryOf, valuePasses, rowPasses, LentRun};
+ghost use Rattle.lent.specs.Slice.{codeIn, codesIn, valuePasses, rowPasses, LentRun, Codes, Wanted, Found, StateRoom, Room, Decoded};
 
 // A run answers how many scans it did.
 pub enum Ran {
@@ -67,50 +65,106 @@ pub fn state_length(states: &[u16], presets: &[u32]) -> usize
 
 // ---- from the slice
 
-fn entry(states: &[u16], state: &[u32], a: usize, at: usize) -> usize
-    ensures { λ r. ⌜ ((c : Tables) → c .states ≡ now (states .entry) → Rules c → a < stateCount c → at ≡ superStatesBelow c a → r ≡ entryOf c (now (state .entry)) a) ⌝ }
+fn wide(x: u16) -> u32
+    ensures { λ r. ⌜ r ≡ x ⌝ }
 {
-    if tables::initial(states, a) == 0 {
-        return 0;
-    }
-    layout::sub_with_code(states, a, paths::value(state, at) as usize)
+    x as u32
 }
 
-fn memory_of(states: &[u16], state: &[u32]) -> [u16; 256]
-    ensures { λ r. ⌜ ((c : Tables) → c .states ≡ now (states .entry) → Rules c → take (stateCount c) r ≡ lentMemory c (now (state .entry))) ⌝ }
+fn code_at(codes: &[u16], s: usize) -> u32
+    ensures { λ r. ⌜ r ≡ getD (now (codes .entry)) s 0 ⌝ }
+{
+    if codes.len() <= s {
+        return 0;
+    }
+    wide(codes[s])
+}
+
+fn put_value(values: &mut [u32], i: usize, v: u32)
+    ensures { λ _. ⌜ now (values .exit) ≡ set (now (values .entry)) i v ⌝ }
+{
+    if i < values.len() {
+        values[i] = v;
+    }
+}
+
+// What stands in the slice for the super-state a; and it has found no sub-state yet: n, which is no state's number.
+fn want(
+    states: &[u16],
+    state: &[u32],
+    n: usize,
+    a: usize,
+    at: usize,
+    wants: &mut [u32],
+    memory: &mut [u16],
+) -> usize
+    requires { ⌜ at < 256 ⌝ }
+    ensures { λ r. ⌜ (r ≤ at + 1) × ((c : Tables) → c .states ≡ now (states .entry) → Rules c → a < stateCount c → n ≤ 256
+        → (r ≡ at + cond (leaf c a) 0 1) × (now (wants .exit) ≡ cond (leaf c a) (now (wants .entry)) (set (now (wants .entry)) a (getD (now (state .entry)) at 0)))
+        × (now (memory .exit) ≡ cond (leaf c a) (now (memory .entry)) (set (now (memory .entry)) a n))) ⌝ }
+{
+    if tables::initial(states, a) == 0 {
+        return at;
+    }
+    put_value(wants, a, paths::value(state, at));
+    moving::remember(memory, a, n);
+    at + 1
+}
+
+// The codes of all super-states; it answers how many there are.
+fn want_all(states: &[u16], state: &[u32], wants: &mut [u32], memory: &mut [u16]) -> usize
+    ensures { λ r. ⌜ (r ≤ 256) × ((c : Tables) → c .states ≡ now (states .entry) → Rules c → stateCount c ≤ length (now (wants .entry)) → stateCount c ≤ length (now (memory .entry))
+        → ((s : ℕ) → getD (now (memory .entry)) s 0 ≡ 0)
+        → (r ≡ superStatesBelow c (stateCount c)) × Wanted c (now (state .entry)) (stateCount c) (now (wants .exit)) × Found c (now (state .entry)) (stateCount c) (now (memory .exit))) ⌝ }
 {
     let n = state_count(states);
-    let mut memory = [0u16; 256];
     let mut at = 0;
     let mut a = 0;
     while a < n {
-        moving::remember(&mut memory, a, entry(states, state, a, at));
-        at = next(states, a, at);
+        at = want(states, state, n, a, at, wants, memory);
         a += 1;
     }
-    memory
+    at
 }
 
-fn timers_of(state: &[u32], from: usize) -> [u32; 32]
-    requires { ⌜ from ≤ 256 ⌝ }
-    ensures { λ r. ⌜ ((i : ℕ) → i < 32 → getD r i 0 ≡ getD (now (state .entry)) (from + i) 0) ⌝ }
+// The state s is what its super-state remembers if it has the code that is wanted.
+fn find(states: &[u16], codes: &[u16], wants: &[u32], s: usize, memory: &mut [u16])
+    ensures { λ _. ⌜ ((c : Tables) (l : List ℕ) → c .states ≡ now (states .entry) → Rules c → s < stateCount c → stateCount c ≤ length (now (memory .entry))
+        → Codes c (now (codes .entry)) → Wanted c l (stateCount c) (now (wants .entry)) → Found c l (suc s) (now (memory .entry)) → Found c l s (now (memory .exit))) ⌝ }
 {
-    let mut timers = [0u32; 32];
+    if s == 0 {
+        return;
+    }
+    let a = tables::super_state(states, s);
+    if code_at(codes, s) == paths::value(wants, a) {
+        moving::remember(memory, a, s);
+    }
+}
+
+// One look at each state finds what all super-states remember; from the last state on, so that the least counts.
+fn find_all(states: &[u16], codes: &[u16], wants: &[u32], memory: &mut [u16])
+    ensures { λ _. ⌜ ((c : Tables) (l : List ℕ) → c .states ≡ now (states .entry) → Rules c → stateCount c ≤ length (now (memory .entry))
+        → Codes c (now (codes .entry)) → Wanted c l (stateCount c) (now (wants .entry)) → Found c l (stateCount c) (now (memory .entry)) → take (stateCount c) (now (memory .exit)) ≡ lentMemory c l) ⌝ }
+{
+    let mut s = state_count(states);
+    while 0 < s {
+        s -= 1;
+        find(states, codes, wants, s, memory);
+    }
+}
+
+fn copy_timers(state: &[u32], from: usize, count: usize, timers: &mut [u32])
+    requires { ⌜ from ≤ 256 ⌝ }
+    ensures { λ _. ⌜ (count ≤ 32 → count ≤ length (now (timers .entry)) → (i : ℕ) → i < count → getD (now (timers .exit)) i 0 ≡ getD (now (state .entry)) (from + i) 0) ⌝ }
+{
+    if Chart::TIMERS < count {
+        return;
+    }
     let mut i = 0;
-    while i < Chart::TIMERS {
-        timers[i] = paths::value(state, from + i);
+    while i < count {
+        put_value(timers, i, paths::value(state, from + i));
         i += 1;
     }
-    timers
-}
-
-pub fn decode(states: &[u16], state: &[u32]) -> Machine
-    ensures { λ r. ⌜ ((c : Tables) → c .states ≡ now (states .entry) → Rules c → length (now (state .entry)) ≡ lentLength c
-        → held c (r .memory) (r .timers) ≡ stateOf c (now (state .entry))) ⌝ }
-{
-    let memory = memory_of(states, state);
-    let timers = timers_of(state, super_states(states));
-    Machine { memory, timers }
 }
 
 // ---- 14 STATE
@@ -148,8 +202,8 @@ fn value_passes(step: u32, preset: u32, runs: bool, value: u32) -> bool
     value == 0
 }
 
-fn values_pass(step: u32, presets: &[u32], running: &[u8], timers: &[u32]) -> bool
-    ensures { λ r. ⌜ (1 ≤ step → length (now (presets .entry)) ≤ 32 → r ≡ every (rowPasses step (now (presets .entry)) (now (running .entry)) (now (timers .entry))) 0 (length (now (presets .entry)))) ⌝ }
+fn values_pass(step: u32, presets: &[u32], running: u64, timers: &[u32]) -> bool
+    ensures { λ r. ⌜ (1 ≤ step → length (now (presets .entry)) ≤ 32 → r ≡ every (rowPasses step (now (presets .entry)) running (now (timers .entry))) 0 (length (now (presets .entry)))) ⌝ }
 {
     if Chart::TIMERS < presets.len() {
         return false;
@@ -159,7 +213,7 @@ fn values_pass(step: u32, presets: &[u32], running: &[u8], timers: &[u32]) -> bo
         if !value_passes(
             step,
             paths::value(presets, i),
-            paths::flag(running, i + 1),
+            paths::bit_at(running, i),
             paths::value(timers, i),
         ) {
             return false;
@@ -169,52 +223,43 @@ fn values_pass(step: u32, presets: &[u32], running: &[u8], timers: &[u32]) -> bo
     true
 }
 
-pub fn state_passes(
+// What it looks at is left in the lent slices: the memory, the timers, and of each state the timers that run in it.
+fn state_passes(
     chart: Chart,
     states: &[u16],
     presets: &[u32],
     timer_pairs: &[u16],
+    codes: &[u16],
     state: &[u32],
+    wants: &mut [u32],
+    memory: &mut [u16],
+    timers: &mut [u32],
+    runs: &mut [u64],
 ) -> bool
-    ensures { λ r. ⌜ ((c : Tables) → c .step ≡ chart .step → c .states ≡ now (states .entry) → c .presets ≡ now (presets .entry) → c .timerPairs ≡ now («timer_pairs» .entry)
-        → Rules c → r ≡ statePasses c (now (state .entry))) ⌝ }
+    ensures { λ r. ⌜ ((c : Tables) → c .step ≡ chart .step → c .states ≡ now (states .entry) → c .presets ≡ now (presets .entry) → c .timerPairs ≡ now («timer_pairs» .entry) → Rules c
+        → Codes c (now (codes .entry)) → StateRoom c (now (wants .entry)) (now (memory .entry)) (now (timers .entry)) (now (runs .entry))
+        → (r ≡ statePasses c (now (state .entry))) × (r ≡ true → Decoded c (now (state .entry)) (now (memory .exit)) (now (timers .exit)) (now (runs .exit)))) ⌝ }
 {
     if state.len() != state_length(states, presets) {
         return false;
     }
-    let memory = memory_of(states, state);
-    if !codes_pass(&memory, state_count(states)) {
+    let from = want_all(states, state, wants, memory);
+    find_all(states, codes, wants, memory);
+    if !codes_pass(memory, state_count(states)) {
         return false;
     }
-    let timers = timers_of(state, super_states(states));
-    let running = machine::running(states, timer_pairs, &memory);
-    values_pass(chart.step, presets, &running, &timers)
+    copy_timers(state, from, presets.len(), timers);
+    pairing::paired_words(states, timer_pairs, runs);
+    let running = paths::word(runs, paths::active_leaf(memory));
+    values_pass(chart.step, presets, running, timers)
 }
 
 // ---- to the slice
 
-fn wide(x: u16) -> u32
-    ensures { λ r. ⌜ r ≡ x ⌝ }
-{
-    x as u32
-}
-
-fn put_value(values: &mut [u32], i: usize, v: u32)
-    ensures { λ _. ⌜ now (values .exit) ≡ set (now (values .entry)) i v ⌝ }
-{
-    if i < values.len() {
-        values[i] = v;
-    }
-}
-
 fn code_of(codes: &[u16], memory: &[u16], a: usize) -> u32
     ensures { λ r. ⌜ r ≡ getD (now (codes .entry)) (remembered (now (memory .entry)) a) 0 ⌝ }
 {
-    let s = paths::remembered(memory, a);
-    if codes.len() <= s {
-        return 0;
-    }
-    wide(codes[s])
+    code_at(codes, paths::remembered(memory, a))
 }
 
 fn write_code(
@@ -261,24 +306,140 @@ fn write_timers(timers: &[u32], count: usize, from: usize, state: &mut [u32])
     }
 }
 
-pub fn encode(states: &[u16], presets: &[u32], m: Machine, state: &mut [u32])
-    ensures { λ _. ⌜ ((c : Tables) → c .states ≡ now (states .entry) → c .presets ≡ now (presets .entry) → Rules c → Valid c (held c (m .memory) (m .timers))
-        → length (now (state .entry)) ≡ lentLength c → now (state .exit) ≡ lentOf c (held c (m .memory) (m .timers))) ⌝ }
+fn encode(
+    states: &[u16],
+    presets: &[u32],
+    codes: &[u16],
+    memory: &[u16],
+    timers: &[u32],
+    state: &mut [u32],
+)
+    ensures { λ _. ⌜ ((c : Tables) → c .states ≡ now (states .entry) → c .presets ≡ now (presets .entry) → Rules c → Codes c (now (codes .entry))
+        → length (now (timers .entry)) ≡ 32 → Valid c (held c (now (memory .entry)) (now (timers .entry)))
+        → length (now (state .entry)) ≡ lentLength c → now (state .exit) ≡ lentOf c (held c (now (memory .entry)) (now (timers .entry)))) ⌝ }
 {
     if Chart::TIMERS < presets.len() {
         return;
     }
-    let memory = m.memory;
-    let timers = m.timers;
-    let laid = layout::lay_out(states);
-    let codes = laid.code;
-    let at = write_codes(states, &codes, &memory, state);
-    write_timers(&timers, presets.len(), at, state);
+    let at = write_codes(states, codes, memory, state);
+    write_timers(timers, presets.len(), at, state);
 }
 
 // ---- the run
 
-// "then 14, 15": the refusals after those of the tables. "A refusal writes nothing."
+// "then 14, 15": the refusals after those of the tables. "A refusal writes nothing." The run works in the lent slices, which
+// are all 0.
+fn run_in(
+    chart: Chart,
+    states: &[u16],
+    moves: &[i16],
+    presets: &[u32],
+    timer_pairs: &[u16],
+    output_pairs: &[u16],
+    wants: &mut [u32],
+    memory: &mut [u16],
+    runs: &mut [u64],
+    shows: &mut [u64],
+    asks: &mut [u64],
+    state: &mut [u32],
+    inputs: &[u64],
+    leaves: &mut [u16],
+    outputs: &mut [u64],
+) -> Ran
+    ensures { λ r. ⌜ ((c : Tables) → Given c (chart .step) (chart .outputs) (now (states .entry)) (now (moves .entry)) (now (presets .entry)) (now («timer_pairs» .entry)) (now («output_pairs» .entry))
+        → Rules c → Room c (now (wants .entry)) (now (memory .entry)) (now (runs .entry)) (now (shows .entry)) (now (asks .entry))
+        → LentRun c (now (inputs .entry)) (now (state .entry)) (now (leaves .entry)) (now (outputs .entry)) r (now (state .exit)) (now (leaves .exit)) (now (outputs .exit))) ⌝ }
+{
+    let codes = layout::codes_of(states);
+    let mut timers = [0u32; 32];
+    if !state_passes(
+        chart,
+        states,
+        presets,
+        timer_pairs,
+        &codes,
+        state,
+        wants,
+        memory,
+        &mut timers,
+        runs,
+    ) {
+        return Ran::Refused(Refusal::State);
+    }
+    if leaves.len() != inputs.len() {
+        return Ran::Refused(Refusal::Scans);
+    }
+    if outputs.len() != inputs.len() {
+        return Ran::Refused(Refusal::Scans);
+    }
+    machine::run(
+        chart,
+        states,
+        moves,
+        presets,
+        output_pairs,
+        runs,
+        shows,
+        asks,
+        memory,
+        &mut timers,
+        inputs,
+        leaves,
+        outputs,
+    );
+    encode(states, presets, &codes, memory, &timers, state);
+    Ran::Done(inputs.len())
+}
+
+fn is_small(states: &[u16], moves: &[i16]) -> bool
+    ensures { λ r. ⌜ (r ≡ true → (length (now (states .entry)) / 2 ≤ 32) × (length (now (moves .entry)) / 11 ≤ 32)) ⌝ }
+{
+    if 32 < states.len() / 2 {
+        return false;
+    }
+    moves.len() / 11 <= 32
+}
+
+fn run_large(
+    chart: Chart,
+    states: &[u16],
+    moves: &[i16],
+    presets: &[u32],
+    timer_pairs: &[u16],
+    output_pairs: &[u16],
+    state: &mut [u32],
+    inputs: &[u64],
+    leaves: &mut [u16],
+    outputs: &mut [u64],
+) -> Ran
+    ensures { λ r. ⌜ ((c : Tables) → Given c (chart .step) (chart .outputs) (now (states .entry)) (now (moves .entry)) (now (presets .entry)) (now («timer_pairs» .entry)) (now («output_pairs» .entry))
+        → Rules c → LentRun c (now (inputs .entry)) (now (state .entry)) (now (leaves .entry)) (now (outputs .entry)) r (now (state .exit)) (now (leaves .exit)) (now (outputs .exit))) ⌝ }
+{
+    let mut wants = [0u32; 256];
+    let mut memory = [0u16; 256];
+    let mut runs = [0u64; 256];
+    let mut shows = [0u64; 256];
+    let mut asks = [0u64; 2048];
+    run_in(
+        chart,
+        states,
+        moves,
+        presets,
+        timer_pairs,
+        output_pairs,
+        &mut wants,
+        &mut memory,
+        &mut runs,
+        &mut shows,
+        &mut asks,
+        state,
+        inputs,
+        leaves,
+        outputs,
+    )
+}
+
+// A small chart clears only small slices.
 pub fn run_checked(
     chart: Chart,
     states: &[u16],
@@ -294,28 +455,40 @@ pub fn run_checked(
     ensures { λ r. ⌜ ((c : Tables) → Given c (chart .step) (chart .outputs) (now (states .entry)) (now (moves .entry)) (now (presets .entry)) (now («timer_pairs» .entry)) (now («output_pairs» .entry))
         → Rules c → LentRun c (now (inputs .entry)) (now (state .entry)) (now (leaves .entry)) (now (outputs .entry)) r (now (state .exit)) (now (leaves .exit)) (now (outputs .exit))) ⌝ }
 {
-    if !state_passes(chart, states, presets, timer_pairs, state) {
-        return Ran::Refused(Refusal::State);
+    if is_small(states, moves) {
+        let mut wants = [0u32; 32];
+        let mut memory = [0u16; 32];
+        let mut runs = [0u64; 32];
+        let mut shows = [0u64; 32];
+        let mut asks = [0u64; 128];
+        return run_in(
+            chart,
+            states,
+            moves,
+            presets,
+            timer_pairs,
+            output_pairs,
+            &mut wants,
+            &mut memory,
+            &mut runs,
+            &mut shows,
+            &mut asks,
+            state,
+            inputs,
+            leaves,
+            outputs,
+        );
     }
-    if leaves.len() != inputs.len() {
-        return Ran::Refused(Refusal::Scans);
-    }
-    if outputs.len() != inputs.len() {
-        return Ran::Refused(Refusal::Scans);
-    }
-    let m = decode(states, state);
-    let last = machine::run(
+    run_large(
         chart,
         states,
         moves,
         presets,
         timer_pairs,
         output_pairs,
-        m,
+        state,
         inputs,
         leaves,
         outputs,
-    );
-    encode(states, presets, last, state);
-    Ran::Done(inputs.len())
+    )
 }

@@ -1,15 +1,16 @@
 -- What the functions that try one form of a line answer.
 use mathlib.Core.Path.{_≡_}
-use Prim.Native.Nat.{ℕ, suc, _≤_, _<_}
+use mathlib.Core.Logic.{_≢_}
+use Prim.Native.Nat.{ℕ, _≤_}
 use mathlib.Core.Bool.{Bool, true}
 use mathlib.Core.List.{List, _++_}
+use lib.ListN.{getD}
 use Rattle.meaning.specs.declared.Operand.{Operand}
 use Rattle.meaning.specs.declared.Operator.{Operator}
 use Rattle.meaning.specs.declared.Operator.the-variants.{Ld, Ldn, And, Andn, Or, Close, St, S, R, Cal, LdTime}
 use Rattle.format.specs.declared.Line.{Line}
 use Rattle.format.specs.declared.Line.the-variants.{Header, Var, Block, EndVar, Says, EndProgram, Unknown}
 use Rattle.format.specs.Text.{decimal, operandText}
-use Rattle.format.specs.Lines.{lineText, lineFits}
 use Rattle.line.specs.declared.Number.{Number}
 use Rattle.line.specs.declared.Number.the-variants as N
 use Rattle.line.specs.declared.Named.{Named}
@@ -29,29 +30,38 @@ abbrev pub Names : List ℕ → (Operand → Bool) → List ℕ → Named → Ty
 Names head passes l (O.Is o) = (passes o ≡ true) × (head ++ operandText o ≡ l)
 Names head passes l O.Nothing = (o : Operand) → passes o ≡ true → head ++ operandText o ≡ l → ⊥
 
--- the order in which the forms are tried: brackets and loads; the other tests; what ends a rung
-unfoldable pub operatorKind : Operator → ℕ
-operatorKind (Ld o) = 0
-operatorKind (Ldn o) = 1
-operatorKind (And o) = 1
-operatorKind (Andn o) = 1
-operatorKind Or = 0
-operatorKind Close = 0
-operatorKind (St o) = 2
-operatorKind (S o) = 2
-operatorKind (R o) = 2
-operatorKind (Cal o) = 2
-operatorKind (LdTime n) = 0
+-- the byte that an instruction begins with
+unfoldable pub operatorByte : Operator → ℕ
+operatorByte (Ld o) = 76
+operatorByte (Ldn o) = 76
+operatorByte (And o) = 65
+operatorByte (Andn o) = 65
+operatorByte Or = 79
+operatorByte Close = 41
+operatorByte (St o) = 83
+operatorByte (S o) = 83
+operatorByte (R o) = 82
+operatorByte (Cal o) = 67
+operatorByte (LdTime n) = 76
 
-unfoldable pub kind : Line → ℕ
-kind Header = 0
-kind Var = 0
-kind (Block n) = 0
-kind EndVar = 0
-kind (Says i) = suc (operatorKind i)
-kind EndProgram = 0
-kind Unknown = 0
+-- the byte that a line begins with
+unfoldable pub lineByte : Line → ℕ
+lineByte Header = 80
+lineByte Var = 86
+lineByte (Block n) = 84
+lineByte EndVar = 69
+lineByte (Says i) = operatorByte i
+lineByte EndProgram = 69
+lineByte Unknown = 0
 
--- l is no line of a kind before k
-abbrev pub Beyond : ℕ → List ℕ → Type 0
-Beyond k l = (t : Line) → kind t < k → lineFits t ≡ true → lineText t ≡ l → ⊥
+-- l begins with R or S
+abbrev pub Stores : List ℕ → Type 0
+Stores l = (82 ≤ getD l 0 0) × (getD l 0 0 ≤ 83)
+
+-- l begins with RT or ST
+abbrev pub Puts : List ℕ → Type 0
+Puts l = Stores l × (getD l 1 0 ≡ 84)
+
+-- l begins with none of A, L, R and S
+abbrev pub Others : List ℕ → Type 0
+Others l = (getD l 0 0 ≢ 65) × (getD l 0 0 ≢ 76) × (82 ≤ getD l 0 0 → 84 ≤ getD l 0 0)

@@ -1,10 +1,11 @@
--- The forms of a line, one by one: which line a form is, and what is left where none of a kind is met.
+-- The forms of a line, one by one: which line a form is, and why there is none where the forms that begin alike are not met.
 use mathlib.Core.Path.{_≡_, refl, sym, ap, _∙_}
-use mathlib.Core.Logic.{inl, inr}
-use Prim.Native.Nat.{ℕ, suc, _≤_, _<_}
+use mathlib.Core.Logic.{_≢_, inl, inr}
+use Prim.Native.Nat.{ℕ, _≤_}
 use native.Mathlib.Omega.{arith}
 use mathlib.Core.Bool.{Bool, true, false, _||_, false≢true, or-false}
-use mathlib.Core.List.{List, [], _++_, append-nil, append-assoc}
+use mathlib.Core.List.{List, [], _∷_, _++_, append-nil, append-assoc}
+use lib.ListN.{length, getD}
 use lib.Dec.{leb}
 use borrow.Author.Tests.{le-leb, leb-true}
 use Rattle.meaning.specs.RowsLaws.{or-cases, or-l}
@@ -18,11 +19,11 @@ use Rattle.format.specs.declared.Line.the-variants.{Header, Var, Block, EndVar,
 use Rattle.format.specs.Text.{bytes, decimal, operandText, operatorText}
 use Rattle.format.specs.Decode.{inputFits, blockFits, instruction}
 use Rattle.format.specs.DecodeLaws.{within, in-range}
-use Rattle.format.specs.Lines.{lineText, lineFits, said}
+use Rattle.format.specs.Lines.{leading, timerOperand, operandIn, operatorIn, lineIn, lineText, lineFits, said}
 use Rattle.format.specs.LineLaws.{said-is, said-none}
 use Rattle.line.specs.declared.Number.the-variants as N
 use Rattle.line.specs.declared.Named.the-variants as O
-use Rattle.line.specs.Forms.{Same, Spells, Names, operatorKind, kind, Beyond}
+use Rattle.line.specs.Forms.{Same, Spells, Names, Stores, Puts, Others, operatorByte, lineByte}
 
 -- ---- what tests are on
 
@@ -144,7 +145,7 @@ module _ {l : List ℕ} where
   unfolding lineFits lineText
   line-end e = found l EndProgram refl e
 
--- ---- where no line of a kind is met
+-- ---- where no line is met
 
 pub differs : {w l : List ℕ} {r : Bool} → Same r w l → r ≡ false → w ≡ l → ⊥
 differs s e f = false≢true (sym e ∙ s .1 f)
@@ -152,30 +153,50 @@ differs s e f = false≢true (sym e ∙ s .1 f)
 or-right : (b : Bool) → (b || false) ≡ true → b ≡ true
 or-right b e = sym (or-false b) ∙ e
 
-module _ {l : List ℕ} (header : bytes "PROGRAM CHART" ≡ l → ⊥) (var : bytes "VAR" ≡ l → ⊥) (block : Spells (bytes "T") (bytes " : TON;") 1 32 l N.Nothing) (endVar : bytes "END_VAR" ≡ l → ⊥) (end : bytes "END_PROGRAM" ≡ l → ⊥) where
-  pub beyond-lines : Beyond 1 l
-  unfolding kind lineFits lineText
-  beyond-lines Header k f e = header e
-  beyond-lines Var k f e = var e
-  beyond-lines (Block n) k f e = block n (within 1 32 n f .0) (within 1 32 n f .1) e
-  beyond-lines EndVar k f e = endVar e
-  beyond-lines (Says i) k f e = omega arith
-  beyond-lines EndProgram k f e = end e
-  beyond-lines Unknown k f e = false≢true f
+-- a line begins with its byte
+byte-begins : (t : Line) → getD (lineText t) 0 0 ≡ lineByte t
+unfolding lineByte operatorByte lineText operatorText
+byte-begins Header = refl
+byte-begins Var = refl
+byte-begins (Block n) = refl
+byte-begins EndVar = refl
+byte-begins (Says (Ld o)) = refl
+byte-begins (Says (Ldn o)) = refl
+byte-begins (Says (And o)) = refl
+byte-begins (Says (Andn o)) = refl
+byte-begins (Says Or) = refl
+byte-begins (Says Close) = refl
+byte-begins (Says (St o)) = refl
+byte-begins (Says (S o)) = refl
+byte-begins (Says (R o)) = refl
+byte-begins (Says (Cal o)) = refl
+byte-begins (Says (LdTime n)) = refl
+byte-begins EndProgram = refl
+byte-begins Unknown = refl
 
--- the lines that are no instructions have been tried
-module _ {l : List ℕ} (b : Beyond 1 l) (k : ℕ) (says : (i : Operator) → operatorKind i < k → instruction i ≡ true → operatorText i ≡ l → ⊥) where
-  beyond-says : Beyond (suc k) l
-  unfolding kind lineFits lineText
-  beyond-says Header h f e = b Header (omega arith) f e
-  beyond-says Var h f e = b Var (omega arith) f e
-  beyond-says (Block n) h f e = b (Block n) (omega arith) f e
-  beyond-says EndVar h f e = b EndVar (omega arith) f e
-  beyond-says (Says i) h f e = says i (omega arith) f e
-  beyond-says EndProgram h f e = b EndProgram (omega arith) f e
-  beyond-says Unknown h f e = false≢true f
+-- only lines that begin with the byte that l begins with need be tried
+none-begins : {l : List ℕ} → ((t : Line) → lineByte t ≡ getD l 0 0 → lineFits t ≡ true → lineText t ≡ l → ⊥) → Unknown ≡ said l
+none-begins {l} h = sym (said-none l (λ t f e. h t (sym (byte-begins t) ∙ ap (λ x. getD x 0 0) e) f e))
 
-module _ {l : List ℕ} (b : Beyond 1 l) (or : bytes "OR(" ≡ l → ⊥) (close : bytes ")" ≡ l → ⊥) (no : bytes "LD FALSE" ≡ l → ⊥) (sure : bytes "LD TRUE" ≡ l → ⊥) (test : Names (bytes "LD ") (testable 32) l O.Nothing) (time : Spells (bytes "LD T#") (bytes "ms") 1 86400000 l N.Nothing) where
+-- where l begins with A, L, R or S, only instructions
+module _ {l : List ℕ} (p : 65 ≤ getD l 0 0) (q : getD l 0 0 ≤ 83) (e₁ : getD l 0 0 ≢ 69) (e₂ : getD l 0 0 ≢ 80)
+    (says : (i : Operator) → operatorByte i ≡ getD l 0 0 → instruction i ≡ true → operatorText i ≡ l → ⊥) where
+  none-says : Unknown ≡ said l
+  unfolding lineByte lineFits lineText
+  none-says = none-begins tried
+    where
+      tried : (t : Line) → lineByte t ≡ getD l 0 0 → lineFits t ≡ true → lineText t ≡ l → ⊥
+      tried Header h f e = e₂ (sym h)
+      tried Var h f e = omega arith
+      tried (Block n) h f e = omega arith
+      tried EndVar h f e = e₁ (sym h)
+      tried (Says i) h f e = says i h f e
+      tried EndProgram h f e = e₁ (sym h)
+      tried Unknown h f e = false≢true f
+
+-- ---- LD and LDN
+
+module _ {l : List ℕ} (b : getD l 0 0 ≡ 76) (ldn : Names (bytes "LDN ") (testable 32) l O.Nothing) (test : Names (bytes "LD ") (testable 32) l O.Nothing) (no : bytes "LD FALSE" ≡ l → ⊥) (sure : bytes "LD TRUE" ≡ l → ⊥) (time : Spells (bytes "LD T#") (bytes "ms") 1 86400000 l N.Nothing) where
   no-constant : (o : Operand) → constant o ≡ true → bytes "LD " ++ operandText o ≡ l → ⊥
   unfolding constant operandText
   no-constant (Mx n) f e = false≢true f
@@ -188,45 +209,66 @@ module _ {l : List ℕ} (b : Beyond 1 l) (or : bytes "OR(" ≡ l → ⊥) (close
   no-constant False f e = no e
   no-constant True f e = sure e
 
-  no-load : (i : Operator) → operatorKind i < 1 → instruction i ≡ true → operatorText i ≡ l → ⊥
-  unfolding operatorKind instruction operatorText
-  no-load (Ld o) h f e = elim (or-cases (testable 32 o) (constant o) f) [ inl t ↦ test o t e | inr t ↦ no-constant o t e ]
-  no-load (Ldn o) h f e = omega arith
-  no-load (And o) h f e = omega arith
-  no-load (Andn o) h f e = omega arith
-  no-load Or h f e = or e
-  no-load Close h f e = close e
-  no-load (St o) h f e = omega arith
-  no-load (S o) h f e = omega arith
-  no-load (R o) h f e = omega arith
-  no-load (Cal o) h f e = omega arith
-  no-load (LdTime n) h f e = time n (within 1 86400000 n f .0) (within 1 86400000 n f .1) e
+  pub no-load : Unknown ≡ said l
+  unfolding operatorByte instruction operatorText
+  no-load = none-says (omega arith) (omega arith) (λ e. omega arith) (λ e. omega arith) tried
+    where
+      tried : (i : Operator) → operatorByte i ≡ getD l 0 0 → instruction i ≡ true → operatorText i ≡ l → ⊥
+      tried (Ld o) h f e = elim (or-cases (testable 32 o) (constant o) f) [ inl t ↦ test o t e | inr t ↦ no-constant o t e ]
+      tried (Ldn o) h f e = ldn o f e
+      tried (And o) h f e = omega arith
+      tried (Andn o) h f e = omega arith
+      tried Or h f e = omega arith
+      tried Close h f e = omega arith
+      tried (St o) h f e = omega arith
+      tried (S o) h f e = omega arith
+      tried (R o) h f e = omega arith
+      tried (Cal o) h f e = omega arith
+      tried (LdTime n) h f e = time n (within 1 86400000 n f .0) (within 1 86400000 n f .1) e
 
-  pub beyond-loads : Beyond 2 l
-  beyond-loads = beyond-says b 1 no-load
+-- the third byte tells LD from LDN
+module _ {l : List ℕ} (b : getD l 0 0 ≡ 76) where
+  pub no-ldn : getD l 2 0 ≡ 78 → Names (bytes "LDN ") (testable 32) l O.Nothing → Unknown ≡ said l
+  no-ldn k s = no-load b s (λ o f e. omega (arith, ap (λ x. getD x 2 0) e)) (λ e. omega (arith, ap (λ x. getD x 2 0) e)) (λ e. omega (arith, ap (λ x. getD x 2 0) e)) (λ n p q e. omega (arith, ap (λ x. getD x 2 0) e))
 
--- an instruction of a kind before k has been tried
-before : {l : List ℕ} {k : ℕ} → Beyond (suc k) l → (i : Operator) → operatorKind i < k → instruction i ≡ true → operatorText i ≡ l → ⊥
-unfolding kind lineFits lineText
-before b i h f e = b (Says i) (omega arith) f e
+  pub no-ld : getD l 2 0 ≢ 78 → Names (bytes "LD ") (testable 32) l O.Nothing → (bytes "LD FALSE" ≡ l → ⊥) → (bytes "LD TRUE" ≡ l → ⊥) → Spells (bytes "LD T#") (bytes "ms") 1 86400000 l N.Nothing → Unknown ≡ said l
+  no-ld k = no-load b (λ o f e. k (sym (ap (λ x. getD x 2 0) e)))
 
-module _ {l : List ℕ} (b : Beyond 2 l) (ldn : Names (bytes "LDN ") (testable 32) l O.Nothing) (and : Names (bytes "AND ") (testable 32) l O.Nothing) (andn : Names (bytes "ANDN ") (testable 32) l O.Nothing) where
-  no-test : (i : Operator) → operatorKind i < 2 → instruction i ≡ true → operatorText i ≡ l → ⊥
-  unfolding operatorKind instruction operatorText
-  no-test (Ld o) h f e = before b (Ld o) (omega arith) f e
-  no-test (Ldn o) h f e = ldn o f e
-  no-test (And o) h f e = and o f e
-  no-test (Andn o) h f e = andn o f e
-  no-test Or h f e = before b Or (omega arith) f e
-  no-test Close h f e = before b Close (omega arith) f e
-  no-test (St o) h f e = omega arith
-  no-test (S o) h f e = omega arith
-  no-test (R o) h f e = omega arith
-  no-test (Cal o) h f e = omega arith
-  no-test (LdTime n) h f e = before b (LdTime n) (omega arith) f e
+pub short-ld : (l : List ℕ) → getD l 0 0 ≡ 76 → length l ≤ 2 → Unknown ≡ said l
+short-ld l b k = no-load b (λ o f e. omega (arith, ap length e)) (λ o f e. omega (arith, ap length e)) (λ e. omega (arith, ap length e)) (λ e. omega (arith, ap length e)) (λ n p q e. omega (arith, ap length e))
 
-  pub beyond-tests : Beyond 3 l
-  beyond-tests = beyond-says (λ t h f e. b t (omega arith) f e) 2 no-test
+-- ---- AND and ANDN
+
+module _ {l : List ℕ} (b : getD l 0 0 ≡ 65) (and : Names (bytes "AND ") (testable 32) l O.Nothing) (andn : Names (bytes "ANDN ") (testable 32) l O.Nothing) where
+  no-test : Unknown ≡ said l
+  unfolding operatorByte instruction operatorText
+  no-test = none-says (omega arith) (omega arith) (λ e. omega arith) (λ e. omega arith) tried
+    where
+      tried : (i : Operator) → operatorByte i ≡ getD l 0 0 → instruction i ≡ true → operatorText i ≡ l → ⊥
+      tried (Ld o) h f e = omega arith
+      tried (Ldn o) h f e = omega arith
+      tried (And o) h f e = and o f e
+      tried (Andn o) h f e = andn o f e
+      tried Or h f e = omega arith
+      tried Close h f e = omega arith
+      tried (St o) h f e = omega arith
+      tried (S o) h f e = omega arith
+      tried (R o) h f e = omega arith
+      tried (Cal o) h f e = omega arith
+      tried (LdTime n) h f e = omega arith
+
+-- the fourth byte tells AND from ANDN
+module _ {l : List ℕ} (b : getD l 0 0 ≡ 65) where
+  pub no-andn : getD l 3 0 ≡ 78 → Names (bytes "ANDN ") (testable 32) l O.Nothing → Unknown ≡ said l
+  no-andn k s = no-test b (λ o f e. omega (arith, ap (λ x. getD x 3 0) e)) s
+
+  pub no-and : getD l 3 0 ≢ 78 → Names (bytes "AND ") (testable 32) l O.Nothing → Unknown ≡ said l
+  no-and k s = no-test b s (λ o f e. k (sym (ap (λ x. getD x 3 0) e)))
+
+pub short-and : (l : List ℕ) → getD l 0 0 ≡ 65 → length l ≤ 3 → Unknown ≡ said l
+short-and l b k = no-test b (λ o f e. omega (arith, ap length e)) (λ o f e. omega (arith, ap length e))
+
+-- ---- what ends a rung
 
 -- an operand that takes a flip-flop only
 only-mx : {A : Type 0} (o : Operand) → flipFlopFits o ≡ true → ((n : ℕ) → n ≤ 255 → o ≡ Mx n → A) → A
@@ -246,20 +288,53 @@ no-mx : (head : List ℕ) (o : Operand) {l : List ℕ} → flipFlopFits o ≡ tr
 unfolding operandText
 no-mx head o f s e = only-mx o f (λ n h z. s n (omega arith) h (append-assoc head (bytes "%MX") (decimal n ++ []) ∙ ap (λ x. head ++ (bytes "%MX" ++ x)) (append-nil (decimal n)) ∙ ap (λ x. head ++ operandText x) (sym z) ∙ e))
 
-module _ {l : List ℕ} (b : Beyond 3 l) (mx : Spells (bytes "ST %MX") [] 0 255 l N.Nothing) (qx : Spells (bytes "ST %QX") [] 1 64 l N.Nothing) (on : Spells (bytes "ST T") (bytes ".IN") 1 32 l N.Nothing) (pt : Spells (bytes "ST T") (bytes ".PT") 1 32 l N.Nothing)
-    (s : Spells (bytes "S %MX") [] 0 255 l N.Nothing) (r : Spells (bytes "R %MX") [] 0 255 l N.Nothing) (call : Spells (bytes "CAL T") [] 1 32 l N.Nothing) where
-  no-put : (o : Operand) → (flipFlopFits o || outputFits o || inputFits o) ≡ true → bytes "ST " ++ operandText o ≡ l → ⊥
-  unfolding flipFlopFits outputFits inputFits operandText
-  no-put (Mx n) f e = mx n (omega arith) (leb-true n 255 (or-right (leb n 255) (or-right (leb n 255 || false) f))) (ap (λ x. bytes "ST %MX" ++ x) (append-nil (decimal n)) ∙ e)
-  no-put (Ix n) f e = false≢true f
-  no-put (Qx n) f e = let w = within 1 64 n (or-right _ f) in qx n (w .0) (w .1) (ap (λ x. bytes "ST %QX" ++ x) (append-nil (decimal n)) ∙ e)
-  no-put (TimerQ n) f e = false≢true f
-  no-put (TimerIn n) f e = on n (within 1 32 n f .0) (within 1 32 n f .1) e
-  no-put (TimerPt n) f e = pt n (within 1 32 n f .0) (within 1 32 n f .1) e
-  no-put (Timer n) f e = false≢true f
-  no-put False f e = false≢true f
-  no-put True f e = false≢true f
+module _ {l : List ℕ} (b : Stores l) (put : (o : Operand) → (flipFlopFits o || outputFits o || inputFits o) ≡ true → bytes "ST " ++ operandText o ≡ l → ⊥)
+    (s : Spells (bytes "S %MX") [] 0 255 l N.Nothing) (r : Spells (bytes "R %MX") [] 0 255 l N.Nothing) where
+  no-end : Unknown ≡ said l
+  unfolding operatorByte instruction operatorText
+  no-end = none-says (omega arith) (omega arith) (λ e. omega arith) (λ e. omega arith) tried
+    where
+      tried : (i : Operator) → operatorByte i ≡ getD l 0 0 → instruction i ≡ true → operatorText i ≡ l → ⊥
+      tried (Ld o) h f e = omega arith
+      tried (Ldn o) h f e = omega arith
+      tried (And o) h f e = omega arith
+      tried (Andn o) h f e = omega arith
+      tried Or h f e = omega arith
+      tried Close h f e = omega arith
+      tried (St o) h f e = put o f e
+      tried (S o) h f e = no-mx (bytes "S ") o f s e
+      tried (R o) h f e = no-mx (bytes "R ") o f r e
+      tried (Cal o) h f e = omega arith
+      tried (LdTime n) h f e = omega arith
 
+pub short-store : (l : List ℕ) → Stores l → length l ≤ 1 → Unknown ≡ said l
+short-store l b k = no-end b (λ o f e. omega (arith, ap length e)) (λ n p q e. omega (arith, ap length e)) (λ n p q e. omega (arith, ap length e))
+
+-- the second byte tells ST from S and R
+module _ {l : List ℕ} (b : Stores l) where
+  pub no-store : getD l 1 0 ≢ 84 → Spells (bytes "S %MX") [] 0 255 l N.Nothing → Spells (bytes "R %MX") [] 0 255 l N.Nothing → Unknown ≡ said l
+  no-store k = no-end b (λ o f e. k (sym (ap (λ x. getD x 1 0) e)))
+
+module _ {l : List ℕ} (b : Puts l) (mx : Spells (bytes "ST %MX") [] 0 255 l N.Nothing) (qx : Spells (bytes "ST %QX") [] 1 64 l N.Nothing) (on : Spells (bytes "ST T") (bytes ".IN") 1 32 l N.Nothing) (pt : Spells (bytes "ST T") (bytes ".PT") 1 32 l N.Nothing) where
+  put-none : (o : Operand) → (flipFlopFits o || outputFits o || inputFits o) ≡ true → bytes "ST " ++ operandText o ≡ l → ⊥
+  unfolding flipFlopFits outputFits inputFits operandText
+  put-none (Mx n) f e = mx n (omega arith) (leb-true n 255 (or-right (leb n 255) (or-right (leb n 255 || false) f))) (ap (λ x. bytes "ST %MX" ++ x) (append-nil (decimal n)) ∙ e)
+  put-none (Ix n) f e = false≢true f
+  put-none (Qx n) f e = let w = within 1 64 n (or-right _ f) in qx n (w .0) (w .1) (ap (λ x. bytes "ST %QX" ++ x) (append-nil (decimal n)) ∙ e)
+  put-none (TimerQ n) f e = false≢true f
+  put-none (TimerIn n) f e = on n (within 1 32 n f .0) (within 1 32 n f .1) e
+  put-none (TimerPt n) f e = pt n (within 1 32 n f .0) (within 1 32 n f .1) e
+  put-none (Timer n) f e = false≢true f
+  put-none False f e = false≢true f
+  put-none True f e = false≢true f
+
+  pub no-put : Unknown ≡ said l
+  no-put = no-end (b .0) put-none (λ n p q e. omega (arith, b .1, ap (λ x. getD x 1 0) e)) (λ n p q e. omega (arith, b .1, ap (λ x. getD x 1 0) e))
+
+-- ---- any other line
+
+module _ {l : List ℕ} (b : Others l) (or : bytes "OR(" ≡ l → ⊥) (close : bytes ")" ≡ l → ⊥) (call : Spells (bytes "CAL T") [] 1 32 l N.Nothing) (block : Spells (bytes "T") (bytes " : TON;") 1 32 l N.Nothing)
+    (var : bytes "VAR" ≡ l → ⊥) (endVar : bytes "END_VAR" ≡ l → ⊥) (header : bytes "PROGRAM CHART" ≡ l → ⊥) (end : bytes "END_PROGRAM" ≡ l → ⊥) where
   no-call : (o : Operand) → blockFits o ≡ true → bytes "CAL " ++ operandText o ≡ l → ⊥
   unfolding blockFits operandText
   no-call (Mx n) f e = false≢true f
@@ -272,42 +347,35 @@ module _ {l : List ℕ} (b : Beyond 3 l) (mx : Spells (bytes "ST %MX") [] 0 255 
   no-call False f e = false≢true f
   no-call True f e = false≢true f
 
-  no-store : (i : Operator) → operatorKind i < 3 → instruction i ≡ true → operatorText i ≡ l → ⊥
-  unfolding operatorKind instruction operatorText
-  no-store (Ld o) h f e = before b (Ld o) (omega arith) f e
-  no-store (Ldn o) h f e = before b (Ldn o) (omega arith) f e
-  no-store (And o) h f e = before b (And o) (omega arith) f e
-  no-store (Andn o) h f e = before b (Andn o) (omega arith) f e
-  no-store Or h f e = before b Or (omega arith) f e
-  no-store Close h f e = before b Close (omega arith) f e
-  no-store (St o) h f e = no-put o f e
-  no-store (S o) h f e = no-mx (bytes "S ") o f s e
-  no-store (R o) h f e = no-mx (bytes "R ") o f r e
-  no-store (Cal o) h f e = no-call o f e
-  no-store (LdTime n) h f e = before b (LdTime n) (omega arith) f e
+  no-instruction : (i : Operator) → operatorByte i ≡ getD l 0 0 → instruction i ≡ true → operatorText i ≡ l → ⊥
+  unfolding operatorByte instruction operatorText
+  no-instruction (Ld o) h f e = b .1 (sym h)
+  no-instruction (Ldn o) h f e = b .1 (sym h)
+  no-instruction (And o) h f e = b .0 (sym h)
+  no-instruction (Andn o) h f e = b .0 (sym h)
+  no-instruction Or h f e = or e
+  no-instruction Close h f e = close e
+  no-instruction (St o) h f e = omega (arith, b .2 (omega arith))
+  no-instruction (S o) h f e = omega (arith, b .2 (omega arith))
+  no-instruction (R o) h f e = omega (arith, b .2 (omega arith))
+  no-instruction (Cal o) h f e = no-call o f e
+  no-instruction (LdTime n) h f e = b .1 (sym h)
 
-  pub no-line : Unknown ≡ said l
-  unfolding kind operatorKind
-  no-line = sym (said-none l (λ t f e. beyond-says (λ u h g d. b u (omega arith) g d) 3 no-store t (last t) f e))
+  pub no-other : Unknown ≡ said l
+  unfolding lineByte lineFits lineText
+  no-other = none-begins tried
     where
-      last : (t : Line) → kind t < 4
-      last Header = omega arith
-      last Var = omega arith
-      last (Block n) = omega arith
-      last EndVar = omega arith
-      last (Says i) = last-kind i
-        where
-          last-kind : (i : Operator) → suc (operatorKind i) < 4
-          last-kind (Ld o) = omega arith
-          last-kind (Ldn o) = omega arith
-          last-kind (And o) = omega arith
-          last-kind (Andn o) = omega arith
-          last-kind Or = omega arith
-          last-kind Close = omega arith
-          last-kind (St o) = omega arith
-          last-kind (S o) = omega arith
-          last-kind (R o) = omega arith
-          last-kind (Cal o) = omega arith
-          last-kind (LdTime n) = omega arith
-      last EndProgram = omega arith
-      last Unknown = omega arith
+      tried : (t : Line) → lineByte t ≡ getD l 0 0 → lineFits t ≡ true → lineText t ≡ l → ⊥
+      tried Header h f e = header e
+      tried Var h f e = var e
+      tried (Block n) h f e = block n (within 1 32 n f .0) (within 1 32 n f .1) e
+      tried EndVar h f e = endVar e
+      tried (Says i) h f e = no-instruction i h f e
+      tried EndProgram h f e = end e
+      tried Unknown h f e = false≢true f
+
+-- no line is empty
+pub no-line : (l : List ℕ) → length l ≡ 0 → Unknown ≡ said l
+unfolding said lineIn lineFits operatorIn operandIn timerOperand leading instruction blockFits
+no-line [] h = refl
+no-line (b ∷ l) h = absurd (omega arith)

@@ -1,6 +1,6 @@
 -- Reading a decimal byte by byte: what is known in front of each byte, and why there may be no decimal.
 use mathlib.Core.Path.{_≡_, refl, sym, ap, ap₂, _∙_}
-use mathlib.Core.Logic.{inl, inr}
+use mathlib.Core.Logic.{_≢_, inl, inr}
 use Prim.Native.Nat.{ℕ, suc, _+_, _*_, _-_, _≤_, _<_}
 use native.Mathlib.Omega.{arith}
 use native.Mathlib.Decide.{decLe}
@@ -88,3 +88,15 @@ module _ {l : List ℕ} {i n : ℕ} (s : Spelling l i n) where
         let d : take i l ≡ 48 ∷ [] = sym (s .front p) ∙ ap decimal z ∙ decimal-small 0 (omega arith) in
         let f : getD (decimal m) 0 0 ≡ 48 = ap (λ x. getD x 0 0) e ∙ sym (getD-take i l 0 0 p) ∙ ap (λ x. getD x 0 0) d in
         omega (arith, ap length d, length-take-le i l (s .within), ap length (sym (ap decimal (no-leading-zero m (omega arith) f) ∙ decimal-small 0 (omega arith)) ∙ e))
+
+-- "Numbers have no leading zero."
+pub zero-first : (l : List ℕ) → 1 < length l → getD l 0 0 ≡ 48 → (m : ℕ) → m ≤ 86400000 → decimal m ≡ l → ⊥
+zero-first l h z = no-zero (spelling-more (spelling-none l) (omega arith) (omega arith) (omega arith) (λ k. absurd (omega arith)) (omega arith)) h (omega arith) (omega arith)
+
+-- where the first of several digits is not 0, neither is the number
+pub digit-more : (l : List ℕ) (i n : ℕ) → (0 < i → 1 < length l → 1 ≤ n) → (1 < length l → getD l 0 0 ≢ 48) → 48 ≤ getD l i 0 → 1 < length l → 1 ≤ 10 * n + (getD l i 0 - 48)
+digit-more l i n z k p h = elim (decLe 1 i) [
+  | yes g ↦ omega (arith, z g h)
+  | no g ↦ (let y : i ≡ 0 = omega arith in
+      let w : getD l i 0 ≢ 48 = rw y (k h) in omega arith)
+]

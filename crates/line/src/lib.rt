@@ -1,5 +1,5 @@
-// Which line of a text some bytes are: document 01, "The written text". Each form of a line is tried in turn; a text has
-// one line at most, so that the order of the tries has no effect.
+// Which line of a text some bytes are: document 01, "The written text". The first bytes choose which forms of a line are
+// tried; bytes are one line at most, so that the order of the tries has no effect.
 use format::Line;
 use meaning::Operand;
 use meaning::Operator;
@@ -9,7 +9,8 @@ ghost use mathlib.Core.List.{[]};
 ghost use Prim.Native.Nat.{_≤_};
 ghost use Rattle.format.specs.Lines.{said};
 ghost use Rattle.meaning.specs.Programs.{testable};
-ghost use Rattle.line.specs.Forms.{Same, Spells, Names, Beyond};
+ghost use lib.ListN.{getD};
+ghost use Rattle.line.specs.Forms.{Same, Spells, Names, Puts, Stores, Others};
 
 // The number that bytes spell, if they do.
 enum Number {
@@ -44,6 +45,14 @@ fn decimal_of(s: &[u8], low: u32, high: u32) -> Number
     requires { ⌜ high ≤ 86400000 ⌝ }
     ensures { λ r. ⌜ Spells [] [] low high (now (s .entry)) r ⌝ }
 {
+    if s.len() == 0 {
+        return Number::Nothing;
+    }
+    if 1 < s.len() {
+        if s[0] == 48 {
+            return Number::Nothing;
+        }
+    }
     let mut n: u32 = 0;
     let mut i = 0;
     while i < s.len() {
@@ -54,19 +63,11 @@ fn decimal_of(s: &[u8], low: u32, high: u32) -> Number
         if 57 < b {
             return Number::Nothing;
         }
-        if 0 < i {
-            if n == 0 {
-                return Number::Nothing;
-            }
-        }
         n = 10 * n + (b - 48) as u32;
         if high < n {
             return Number::Nothing;
         }
         i += 1;
-    }
-    if i == 0 {
-        return Number::Nothing;
     }
     if n < low {
         return Number::Nothing;
@@ -125,9 +126,9 @@ fn tested(s: &[u8]) -> Named
     Named::Nothing
 }
 
-// What ends a rung: "ST (on %MX or %QX), S, R (on %MX)", and the stores and the call of a timer rung.
-fn store_of(s: &[u8]) -> Line
-    requires { ⌜ Beyond 3 (now s) ⌝ }
+// ST, "on %MX or %QX", and the stores of a timer rung.
+fn put_of(s: &[u8]) -> Line
+    requires { ⌜ Puts (now s) ⌝ }
     ensures { λ r. ⌜ r ≡ said (now (s .entry)) ⌝ }
 {
     if let Number::Is(n) = numbered(s, b"ST %MX", b"", 0, 255) {
@@ -142,38 +143,81 @@ fn store_of(s: &[u8]) -> Line
     if let Number::Is(n) = numbered(s, b"ST T", b".PT", 1, 32) {
         return Line::Says(Operator::St(Operand::TimerPt(n as u16)));
     }
+    Line::Unknown
+}
+
+// "ST (on %MX or %QX), S, R (on %MX)": the second byte tells ST.
+fn store_of(s: &[u8]) -> Line
+    requires { ⌜ Stores (now s) ⌝ }
+    ensures { λ r. ⌜ r ≡ said (now (s .entry)) ⌝ }
+{
+    if s.len() <= 1 {
+        return Line::Unknown;
+    }
+    if s[1] == 84 {
+        return put_of(s);
+    }
     if let Number::Is(n) = numbered(s, b"S %MX", b"", 0, 255) {
         return Line::Says(Operator::S(Operand::Mx(n as u16)));
     }
     if let Number::Is(n) = numbered(s, b"R %MX", b"", 0, 255) {
         return Line::Says(Operator::R(Operand::Mx(n as u16)));
     }
-    if let Number::Is(n) = numbered(s, b"CAL T", b"", 1, 32) {
-        return Line::Says(Operator::Cal(Operand::Timer(n as u16)));
-    }
     Line::Unknown
 }
 
-// LDN, AND and ANDN.
-fn test_of(s: &[u8]) -> Line
-    requires { ⌜ Beyond 2 (now s) ⌝ }
+// AND and ANDN, by the fourth byte.
+fn and_of(s: &[u8]) -> Line
+    requires { ⌜ getD (now s) 0 0 ≡ 65 ⌝ }
     ensures { λ r. ⌜ r ≡ said (now (s .entry)) ⌝ }
 {
-    if let Named::Is(o) = test_after(s, b"LDN ") {
-        return Line::Says(Operator::Ldn(o));
+    if s.len() <= 3 {
+        return Line::Unknown;
+    }
+    if s[3] == 78 {
+        if let Named::Is(o) = test_after(s, b"ANDN ") {
+            return Line::Says(Operator::Andn(o));
+        }
+        return Line::Unknown;
     }
     if let Named::Is(o) = test_after(s, b"AND ") {
         return Line::Says(Operator::And(o));
     }
-    if let Named::Is(o) = test_after(s, b"ANDN ") {
-        return Line::Says(Operator::Andn(o));
-    }
-    store_of(s)
+    Line::Unknown
 }
 
-// Brackets and LD. "TRUE and FALSE after LD only"; "Times are 1 to 86,400,000 ms."
+// LD and LDN, by the third byte. "TRUE and FALSE after LD only"; "Times are 1 to 86,400,000 ms."
 fn load_of(s: &[u8]) -> Line
-    requires { ⌜ Beyond 1 (now s) ⌝ }
+    requires { ⌜ getD (now s) 0 0 ≡ 76 ⌝ }
+    ensures { λ r. ⌜ r ≡ said (now (s .entry)) ⌝ }
+{
+    if s.len() <= 2 {
+        return Line::Unknown;
+    }
+    if s[2] == 78 {
+        if let Named::Is(o) = test_after(s, b"LDN ") {
+            return Line::Says(Operator::Ldn(o));
+        }
+        return Line::Unknown;
+    }
+    if let Named::Is(o) = test_after(s, b"LD ") {
+        return Line::Says(Operator::Ld(o));
+    }
+    if same(s, b"LD FALSE") {
+        return Line::Says(Operator::Ld(Operand::False));
+    }
+    if same(s, b"LD TRUE") {
+        return Line::Says(Operator::Ld(Operand::True));
+    }
+    if let Number::Is(n) = numbered(s, b"LD T#", b"ms", 1, 86400000) {
+        return Line::Says(Operator::LdTime(n));
+    }
+    Line::Unknown
+}
+
+// Brackets, CAL, and the lines around the rungs, each form in turn.
+fn other_of(s: &[u8]) -> Line
+    requires { ⌜ Others (now s) ⌝ }
     ensures { λ r. ⌜ r ≡ said (now (s .entry)) ⌝ }
 {
     if same(s, b"OR(") {
@@ -182,39 +226,39 @@ fn load_of(s: &[u8]) -> Line
     if same(s, b")") {
         return Line::Says(Operator::Close);
     }
-    if same(s, b"LD FALSE") {
-        return Line::Says(Operator::Ld(Operand::False));
-    }
-    if same(s, b"LD TRUE") {
-        return Line::Says(Operator::Ld(Operand::True));
-    }
-    if let Named::Is(o) = test_after(s, b"LD ") {
-        return Line::Says(Operator::Ld(o));
-    }
-    if let Number::Is(n) = numbered(s, b"LD T#", b"ms", 1, 86400000) {
-        return Line::Says(Operator::LdTime(n));
-    }
-    test_of(s)
-}
-
-// The line that the bytes are, without its LF.
-pub fn line_of(s: &[u8]) -> Line
-    ensures { λ r. ⌜ r ≡ said (now (s .entry)) ⌝ }
-{
-    if same(s, b"PROGRAM CHART") {
-        return Line::Header;
-    }
-    if same(s, b"VAR") {
-        return Line::Var;
+    if let Number::Is(n) = numbered(s, b"CAL T", b"", 1, 32) {
+        return Line::Says(Operator::Cal(Operand::Timer(n as u16)));
     }
     if let Number::Is(n) = numbered(s, b"T", b" : TON;", 1, 32) {
         return Line::Block(n as u16);
     }
+    if same(s, b"VAR") {
+        return Line::Var;
+    }
     if same(s, b"END_VAR") {
         return Line::EndVar;
+    }
+    if same(s, b"PROGRAM CHART") {
+        return Line::Header;
     }
     if same(s, b"END_PROGRAM") {
         return Line::EndProgram;
     }
-    load_of(s)
+    Line::Unknown
+}
+
+// The line that the bytes are, without its LF, by its first byte: A, L, R or S, or any other.
+pub fn line_of(s: &[u8]) -> Line
+    ensures { λ r. ⌜ r ≡ said (now (s .entry)) ⌝ }
+{
+    if s.len() == 0 {
+        return Line::Unknown;
+    }
+    let a = s[0];
+    match a {
+        65 => and_of(s),
+        76 => load_of(s),
+        82..=83 => store_of(s),
+        _ => other_of(s),
+    }
 }

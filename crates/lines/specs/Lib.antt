@@ -1,2 +1,5 @@
 pub mod Put
+pub mod Fit
+pub mod Digits
 pub mod Declared
+pub mod Once

@@ -9,7 +9,7 @@ use lib.Seq.{sets, length-sets}
 use Rattle.meaning.specs.RowsLaws.{sets-append, sets-out}
 use Rattle.format.specs.Text.{decimal}
 
-abbrev most : ℕ
+abbrev pub most : ℕ
 most = 18446744073709551615
 
 -- the list m and the place r that a writer of w leaves, where it starts at the place i of l
@@ -39,7 +39,3 @@ put-none l i h g = record { fits = h; list = refl; next = omega arith }
 -- a writer keeps the length
 pub put-length : {l w m : List ℕ} {i r : ℕ} → Put l i w m r → length m ≡ length l
 put-length {l} {w} {i = i} p = ap length (p .list) ∙ length-sets l i w
-
--- a number between two words
-abbrev pub numbered : List ℕ → ℕ → List ℕ → List ℕ
-numbered h n t = h ++ (decimal n ++ t)

@@ -30,12 +30,10 @@ pub record Made (c : Tables) (runs links asks most : List ℕ) : Type 0 where
   pub room : moveCount c ≤ length asks / 4
   pub longest : (i : ℕ) → i < timerCount c → getD most i 0 ≡ longest (c .step) (getD (c .presets) i 0)
 
--- room for what is made, with nothing in it
-pub record Empty (c : Tables) (runs shows asks : List ℕ) : Type 0 where
-  pub runsRoom : stateCount c ≤ length runs
+-- room for what is made, with no outputs in it
+pub record Empty (c : Tables) (shows asks : List ℕ) : Type 0 where
   pub showsRoom : stateCount c ≤ length shows
   pub asksRoom : moveCount c ≤ length asks / 4
-  pub noRuns : (s : ℕ) → getD runs s 0 ≡ 0
   pub noShows : (s : ℕ) → getD shows s 0 ≡ 0
 
 -- after scans on the words xs from s: the state, the leaves and the output words

@@ -6,28 +6,30 @@ use native.Mathlib.Nat.{div-mul-le-self}
 use native.Mathlib.Numerals.{one-add, add-one}
 use mathlib.Core.Bool.{cond, _&&_}
 use mathlib.Core.List.{List, [], _∷_, map-append}
-use native.Mathlib.Decide.{decLe}
-use lib.ListN.{length, getD, set, take, replicate, length-replicate, getD-replicate, List·getD-eq-default}
+use lib.ListN.{length, getD, set, take}
 use lib.Seq.{getD-take, length-take-le, take-suc, take-suc-set}
 use lib.Dec.{leb, ltb}
-use Rattle.meaning.specs.Rows.{some, table}
-use Rattle.meaning.specs.Tables.{Tables, stateCount, moveCount, timerCount, pairCount, preset, steps}
+use Rattle.meaning.specs.Rows.{table}
+use Rattle.meaning.specs.Tables.{Tables, stateCount, moveCount, timerCount, preset, steps}
 use Rattle.meaning.specs.Hierarchy.{runs, paired}
 use Rattle.meaning.specs.Literals.{inputOn}
 use Rattle.meaning.specs.Rules.{Rules}
 use Rattle.meaning.specs.Machine.{State, Valid, seen, trace, after, timerValue, activeLeaf, chosen, expired, timed, setting, memoryAfter, moved, step, seenAt}
 use Rattle.meaning.specs.MachineLaws.{Sound, valid-sound, after-step, moved-sound, trace-append, after-append, chosen-same}
-use Rattle.paths.specs.Flags.{on, Path, Paired, rowOn}
-use Rattle.paths.specs.Words.{expiredAt}
-use Rattle.paths.specs.FlagsLaws.{rows-paired, is-table}
+use Rattle.pairing.specs.Words.{Tree, PairedWords}
+use Rattle.paths.specs.Words.{expiredAt, Worded}
+use Rattle.paths.specs.FlagsLaws.{is-table}
 use Rattle.moving.specs.Moves.{read}
 use Rattle.machine.specs.Held.{Scanned, held, longest, grown}
 
-module _ (c : Tables) (R : Rules c) where
-  -- the flags of the timers that run
-  pub timers-paired : (l : ℕ) (fs rs : List ℕ) → Path c l fs → ((n : ℕ) → n < 65 → on rs n ≡ some (rowOn (c .timerPairs) fs n) 0 (pairCount (c .timerPairs))) → Paired c (c .timerPairs) l rs
-  timers-paired l fs rs p f n h = f n h ∙ rows-paired c (c .timerPairs) l fs p (λ i z. omega (arith, R .timerPairs i z .state, R .size .fewStates)) n
+-- the words of what is paired, as the check makes them, are those that the scan reads
+pub rules-tree : (c : Tables) → Rules c → Tree c
+rules-tree c R = record { few = R .size .fewStates; hierarchy = R .hierarchy }
 
+pub worded : (c : Tables) (ps ws : List ℕ) → PairedWords c ps ws → Worded c ps ws
+worded c ps ws f s n h k = f (suc n) s (omega arith) (omega arith) h
+
+module _ (c : Tables) (R : Rules c) where
   -- the choice by words
   pub chosen-on : (x w y l : ℕ) (m ts : List ℕ) → l ≡ activeLeaf c (take (stateCount c) m) → ((n : ℕ) → n < 64 → inputOn w (suc n) ≡ paired c (c .timerPairs) (suc n) l)
       → ((i : ℕ) → i < timerCount c → inputOn y (suc i) ≡ expiredAt (c .presets) w ts i)
@@ -102,11 +104,6 @@ module _ (c : Tables) (R : Rules c) where
 
       sound : Sound c (take (stateCount c) m′)
       sound = let S = valid-sound c R (held c m ts) v in rw after-memory (after-step c x (held c m ts) (Sound c) S (moved-sound c R (take (stateCount c) m) S))
-
--- ---- arrays that are all 0
-
-pub zeros : (n s : ℕ) → _≡_ {A = ℕ} (getD (replicate n 0) s 0) 0
-zeros n s = elim (decLe (suc s) n) [ yes h ↦ getD-replicate n s 0 0 h | no h ↦ List·getD-eq-default (replicate n 0) 0 (rw (length-replicate {A = ℕ} n 0) (omega arith)) ]
 
 -- ---- scans
 

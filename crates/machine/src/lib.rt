@@ -1,23 +1,17 @@
 // The run of a chart, one scan or many, over tables that passed the check. On other tables it is harmless.
 use tables::Chart;
 ghost use mathlib.Core.Path.{_≡_};
-ghost use mathlib.Core.Bool.{true};
-ghost use Prim.Native.Nat.{ℕ, suc, _<_, _≤_, _/_};
+ghost use mathlib.Core.Bool.{cond};
+ghost use Prim.Native.Nat.{ℕ, suc, _<_, _≤_};
 ghost use lib.ListN.{length, getD, set, take};
-ghost use Rattle.meaning.specs.Tables.{Tables, stateCount};
+ghost use lib.Dec.{ltb};
+ghost use Rattle.meaning.specs.Tables.{Tables, stateCount, moveCount};
 ghost use Rattle.meaning.specs.Rules.{Rules};
 ghost use Rattle.meaning.specs.Literals.{inputOn};
-ghost use Rattle.meaning.specs.Machine.{activeLeaf, step, seenAt, Valid};
+ghost use Rattle.meaning.specs.Machine.{activeLeaf, moved, step, seenAt, Valid};
 ghost use Rattle.meaning.specs.MachineLaws.{Sound};
-ghost use Rattle.paths.specs.Flags.{Paired};
 ghost use Rattle.paths.specs.Words.{Worded};
 ghost use Rattle.machine.specs.Held.{Given, Made, Empty, Scanned, held, longest, grown};
-
-// "Each super-state remembers one sub-state": an entry a state, a leaf's is 0; and a value in ms for each timer.
-pub struct Machine {
-    pub memory: [u16; 256],
-    pub timers: [u32; 32],
-}
 
 // N scan steps in ms: no sum or product of 32-bit numbers wraps here.
 pub fn longest(step: u32, preset: u32) -> u64
@@ -90,13 +84,18 @@ fn time(step: u32, most: &[u32], goes_on: u64, count: usize, timers: &mut [u32])
     }
 }
 
-// The flags of the timers that run.
-pub fn running(states: &[u16], timer_pairs: &[u16], memory: &[u16]) -> [u8; 65]
-    ensures { λ r. ⌜ ((c : Tables) → c .states ≡ now (states .entry) → c .timerPairs ≡ now («timer_pairs» .entry) → Rules c → Sound c (take (stateCount c) (now (memory .entry)))
-        → Paired c (c .timerPairs) (activeLeaf c (take (stateCount c) (now (memory .entry)))) r) ⌝ }
+// The leaf after move i from the leaf l: "with none, the state stays".
+fn leaf_after(states: &[u16], moves: &[i16], i: usize, l: usize, memory: &mut [u16]) -> usize
+    ensures { λ r. ⌜ ((c : Tables) → c .states ≡ now (states .entry) → c .moves ≡ now (moves .entry) → Rules c → stateCount c ≤ length (now (memory .entry))
+        → l ≡ activeLeaf c (take (stateCount c) (now (memory .entry)))
+        → (take (stateCount c) (now (memory .exit)) ≡ cond (ltb i (moveCount c)) (moved c i (take (stateCount c) (now (memory .entry)))) (take (stateCount c) (now (memory .entry))))
+        × (Sound c (take (stateCount c) (now (memory .exit))) → r ≡ activeLeaf c (take (stateCount c) (now (memory .exit))))) ⌝ }
 {
-    let path = paths::path_of(states, paths::active_leaf(memory));
-    paths::paired_on(timer_pairs, &path)
+    if moves.len() / 11 <= i {
+        return l;
+    }
+    moving::enter(states, moves, i, memory);
+    paths::active_leaf(memory)
 }
 
 // What is made once for all scans is lent: of each state the timers that run in it, the moves by their source, the
@@ -118,15 +117,14 @@ fn scan(
 ) -> usize
     ensures { λ r. ⌜ ((c : Tables) → c .step ≡ chart .step → c .states ≡ now (states .entry) → c .moves ≡ now (moves .entry) → c .presets ≡ now (presets .entry)
         → Rules c → Made c (now (runs .entry)) (now (links .entry)) (now (asks .entry)) (now (most .entry))
-        → length (now (memory .entry)) ≡ 256 → length (now (timers .entry)) ≡ 32
+        → stateCount c ≤ length (now (memory .entry)) → length (now (timers .entry)) ≡ 32
         → Valid c (held c (now (memory .entry)) (now (timers .entry))) → l ≡ activeLeaf c (take (stateCount c) (now (memory .entry)))
         → (held c (now (memory .exit)) (now (timers .exit)) ≡ step c x (held c (now (memory .entry)) (now (timers .entry)))) × (r ≡ activeLeaf c (take (stateCount c) (now (memory .exit))))) ⌝ }
 {
     let ran = paths::word(runs, l);
     let y = paths::expired_of(presets, ran, timers);
     let i = moving::chosen(states, moves, links, asks, l, x, y);
-    moving::enter(states, moves, i, memory);
-    let next = paths::active_leaf(memory);
+    let next = leaf_after(states, moves, i, l, memory);
     time(
         chart.step,
         most,
@@ -135,100 +133,6 @@ fn scan(
         timers,
     );
     next
-}
-
-// What the scan needs is made in the lent slices, which are all 0.
-fn step_in(
-    chart: Chart,
-    states: &[u16],
-    moves: &[i16],
-    presets: &[u32],
-    timer_pairs: &[u16],
-    runs: &mut [u64],
-    asks: &mut [u64],
-    m: Machine,
-    x: u64,
-) -> Machine
-    ensures { λ r. ⌜ ((c : Tables) → c .step ≡ chart .step → c .states ≡ now (states .entry) → c .moves ≡ now (moves .entry) → c .presets ≡ now (presets .entry)
-        → c .timerPairs ≡ now («timer_pairs» .entry) → Rules c → Empty c (now (runs .entry)) (now (runs .entry)) (now (asks .entry)) → Valid c (held c (m .memory) (m .timers))
-        → held c (r .memory) (r .timers) ≡ step c x (held c (m .memory) (m .timers))) ⌝ }
-{
-    paths::make_words(states, timer_pairs, runs);
-    moving::make_asks(moves, asks);
-    let mut links = [0u16; 768];
-    moving::make_links(moves, &mut links);
-    let most = longest_of(chart.step, presets);
-    let mut memory = m.memory;
-    let mut timers = m.timers;
-    let l = paths::active_leaf(&memory);
-    scan(
-        chart,
-        states,
-        moves,
-        presets,
-        runs,
-        &links,
-        asks,
-        &most,
-        &mut memory,
-        &mut timers,
-        l,
-        x,
-    );
-    Machine { memory, timers }
-}
-
-fn is_small(states: &[u16], moves: &[i16]) -> bool
-    ensures { λ r. ⌜ (r ≡ true → (length (now (states .entry)) / 2 ≤ 32) × (length (now (moves .entry)) / 11 ≤ 32)) ⌝ }
-{
-    if 32 < states.len() / 2 {
-        return false;
-    }
-    moves.len() / 11 <= 32
-}
-
-// A small chart clears only small slices.
-pub fn step(
-    chart: Chart,
-    states: &[u16],
-    moves: &[i16],
-    presets: &[u32],
-    timer_pairs: &[u16],
-    m: Machine,
-    x: u64,
-) -> Machine
-    ensures { λ r. ⌜ ((c : Tables) → c .step ≡ chart .step → c .states ≡ now (states .entry) → c .moves ≡ now (moves .entry) → c .presets ≡ now (presets .entry)
-        → c .timerPairs ≡ now («timer_pairs» .entry) → Rules c → Valid c (held c (m .memory) (m .timers))
-        → held c (r .memory) (r .timers) ≡ step c x (held c (m .memory) (m .timers))) ⌝ }
-{
-    if is_small(states, moves) {
-        let mut runs = [0u64; 32];
-        let mut asks = [0u64; 128];
-        return step_in(
-            chart,
-            states,
-            moves,
-            presets,
-            timer_pairs,
-            &mut runs,
-            &mut asks,
-            m,
-            x,
-        );
-    }
-    let mut runs = [0u64; 256];
-    let mut asks = [0u64; 2048];
-    step_in(
-        chart,
-        states,
-        moves,
-        presets,
-        timer_pairs,
-        &mut runs,
-        &mut asks,
-        m,
-        x,
-    )
 }
 
 fn put_word(words: &mut [u64], i: usize, w: u64)
@@ -259,20 +163,19 @@ fn run_made(
     links: &[u16],
     asks: &[u64],
     most: &[u32],
-    m: Machine,
+    memory: &mut [u16],
+    timers: &mut [u32],
     inputs: &[u64],
     leaves: &mut [u16],
     outputs: &mut [u64],
-) -> Machine
-    ensures { λ r. ⌜ ((c : Tables) → c .step ≡ chart .step → c .states ≡ now (states .entry) → c .moves ≡ now (moves .entry) → c .presets ≡ now (presets .entry)
+)
+    ensures { λ _. ⌜ ((c : Tables) → c .step ≡ chart .step → c .states ≡ now (states .entry) → c .moves ≡ now (moves .entry) → c .presets ≡ now (presets .entry)
         → Rules c → Made c (now (runs .entry)) (now (links .entry)) (now (asks .entry)) (now (most .entry)) → Worded c (c .outputPairs) (now (shows .entry))
-        → Valid c (held c (m .memory) (m .timers))
+        → stateCount c ≤ length (now (memory .entry)) → length (now (timers .entry)) ≡ 32 → Valid c (held c (now (memory .entry)) (now (timers .entry)))
         → length (now (leaves .entry)) ≡ length (now (inputs .entry)) → length (now (outputs .entry)) ≡ length (now (inputs .entry))
-        → Scanned c (held c (m .memory) (m .timers)) (now (inputs .entry)) (held c (r .memory) (r .timers)) (now (leaves .exit)) (now (outputs .exit))) ⌝ }
+        → Scanned c (held c (now (memory .entry)) (now (timers .entry))) (now (inputs .entry)) (held c (now (memory .exit)) (now (timers .exit))) (now (leaves .exit)) (now (outputs .exit))) ⌝ }
 {
-    let mut memory = m.memory;
-    let mut timers = m.timers;
-    let mut l = paths::active_leaf(&memory);
+    let mut l = paths::active_leaf(memory);
     let mut i = 0;
     while i < inputs.len() {
         l = scan(
@@ -284,40 +187,41 @@ fn run_made(
             links,
             asks,
             most,
-            &mut memory,
-            &mut timers,
+            memory,
+            timers,
             l,
             inputs[i],
         );
         show(shows, l, i, leaves, outputs);
         i += 1;
     }
-    Machine { memory, timers }
 }
 
-// What the scans share is made in the lent slices, which are all 0.
-fn run_in(
+// The run works in the memory and the timers that are lent: "Each super-state remembers one sub-state": an entry a state, a
+// leaf's is 0; and a value in ms for each timer. Of what the scans share, the timers that run in each state are lent too; the
+// rest is made here.
+pub fn run(
     chart: Chart,
     states: &[u16],
     moves: &[i16],
     presets: &[u32],
-    timer_pairs: &[u16],
     output_pairs: &[u16],
-    runs: &mut [u64],
+    runs: &[u64],
     shows: &mut [u64],
     asks: &mut [u64],
-    m: Machine,
+    memory: &mut [u16],
+    timers: &mut [u32],
     inputs: &[u64],
     leaves: &mut [u16],
     outputs: &mut [u64],
-) -> Machine
-    ensures { λ r. ⌜ ((c : Tables) → Given c (chart .step) (chart .outputs) (now (states .entry)) (now (moves .entry)) (now (presets .entry)) (now («timer_pairs» .entry)) (now («output_pairs» .entry))
-        → Rules c → Empty c (now (runs .entry)) (now (shows .entry)) (now (asks .entry)) → Valid c (held c (m .memory) (m .timers))
+)
+    ensures { λ _. ⌜ ((c : Tables) → Given c (chart .step) (chart .outputs) (now (states .entry)) (now (moves .entry)) (now (presets .entry)) (c .timerPairs) (now («output_pairs» .entry))
+        → Rules c → Worded c (c .timerPairs) (now (runs .entry)) → Empty c (now (shows .entry)) (now (asks .entry))
+        → stateCount c ≤ length (now (memory .entry)) → length (now (timers .entry)) ≡ 32 → Valid c (held c (now (memory .entry)) (now (timers .entry)))
         → length (now (leaves .entry)) ≡ length (now (inputs .entry)) → length (now (outputs .entry)) ≡ length (now (inputs .entry))
-        → Scanned c (held c (m .memory) (m .timers)) (now (inputs .entry)) (held c (r .memory) (r .timers)) (now (leaves .exit)) (now (outputs .exit))) ⌝ }
+        → Scanned c (held c (now (memory .entry)) (now (timers .entry))) (now (inputs .entry)) (held c (now (memory .exit)) (now (timers .exit))) (now (leaves .exit)) (now (outputs .exit))) ⌝ }
 {
-    paths::make_words(states, timer_pairs, runs);
-    paths::make_words(states, output_pairs, shows);
+    pairing::paired_words(states, output_pairs, shows);
     moving::make_asks(moves, asks);
     let mut links = [0u16; 768];
     moving::make_links(moves, &mut links);
@@ -332,66 +236,10 @@ fn run_in(
         &links,
         asks,
         &most,
-        m,
+        memory,
+        timers,
         inputs,
         leaves,
         outputs,
-    )
-}
-
-pub fn run(
-    chart: Chart,
-    states: &[u16],
-    moves: &[i16],
-    presets: &[u32],
-    timer_pairs: &[u16],
-    output_pairs: &[u16],
-    m: Machine,
-    inputs: &[u64],
-    leaves: &mut [u16],
-    outputs: &mut [u64],
-) -> Machine
-    ensures { λ r. ⌜ ((c : Tables) → Given c (chart .step) (chart .outputs) (now (states .entry)) (now (moves .entry)) (now (presets .entry)) (now («timer_pairs» .entry)) (now («output_pairs» .entry))
-        → Rules c → Valid c (held c (m .memory) (m .timers))
-        → length (now (leaves .entry)) ≡ length (now (inputs .entry)) → length (now (outputs .entry)) ≡ length (now (inputs .entry))
-        → Scanned c (held c (m .memory) (m .timers)) (now (inputs .entry)) (held c (r .memory) (r .timers)) (now (leaves .exit)) (now (outputs .exit))) ⌝ }
-{
-    if is_small(states, moves) {
-        let mut runs = [0u64; 32];
-        let mut shows = [0u64; 32];
-        let mut asks = [0u64; 128];
-        return run_in(
-            chart,
-            states,
-            moves,
-            presets,
-            timer_pairs,
-            output_pairs,
-            &mut runs,
-            &mut shows,
-            &mut asks,
-            m,
-            inputs,
-            leaves,
-            outputs,
-        );
-    }
-    let mut runs = [0u64; 256];
-    let mut shows = [0u64; 256];
-    let mut asks = [0u64; 2048];
-    run_in(
-        chart,
-        states,
-        moves,
-        presets,
-        timer_pairs,
-        output_pairs,
-        &mut runs,
-        &mut shows,
-        &mut asks,
-        m,
-        inputs,
-        leaves,
-        outputs,
-    )
+    );
 }

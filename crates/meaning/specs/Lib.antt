@@ -41,3 +41,5 @@ pub mod Simulate
 pub mod HeldLaws
 pub mod Demands
 pub mod DemandLaws
+pub mod BitLaws
+pub mod Once

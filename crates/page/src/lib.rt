@@ -131,7 +131,7 @@ fn end(p: Page) -> Page
     if phases::may_end(p.reading) {
         return gone_on(is_running(p), turned(Stage::Ended, p), p);
     }
-    turned(Stage::Broken, p)
+    turned(Stage::Broken, p) // the last rung is not complete
 }
 
 // Before the first line.

@@ -24,8 +24,13 @@ rowAt ps n l i = eqb (pairNumber ps i) n && eqb (pairState ps i) l
 abbrev pub own : List ℕ → ℕ → ℕ → Bool
 own ps n l = some (rowAt ps n l) 0 (pairCount ps)
 
+-- the words have what is paired with each state itself
 abbrev pub Own : List ℕ → List ℕ → Type 0
-Own ps ws = (length ws ≡ mostStates) × ((n l : ℕ) → 1 ≤ n → n ≤ 64 → l < mostStates → inputOn (getD ws l 0) n ≡ own ps n l)
+Own ps ws = (n l : ℕ) → 1 ≤ n → n ≤ 64 → l < length ws → inputOn (getD ws l 0) n ≡ own ps n l
+
+-- words that have no number yet
+abbrev pub Clear : List ℕ → Type 0
+Clear ws = (l : ℕ) → getD ws l 0 ≡ 0
 
 abbrev pub PairedWords : Tables → List ℕ → List ℕ → Type 0
 PairedWords c ps ws = (n l : ℕ) → 1 ≤ n → n ≤ 64 → l < stateCount c → inputOn (getD ws l 0) n ≡ paired c ps n l
@@ -33,4 +38,4 @@ PairedWords c ps ws = (n l : ℕ) → 1 ≤ n → n ≤ 64 → l < stateCount c 
 -- the states below s are done, and the others have their own numbers only
 abbrev pub Upto : Tables → List ℕ → List ℕ → ℕ → Type 0
 Upto c ps ws s = ((n l : ℕ) → 1 ≤ n → n ≤ 64 → l < s → l < stateCount c → inputOn (getD ws l 0) n ≡ paired c ps n l)
-    × ((n l : ℕ) → 1 ≤ n → n ≤ 64 → s ≤ l → l < mostStates → inputOn (getD ws l 0) n ≡ own ps n l)
+    × ((n l : ℕ) → 1 ≤ n → n ≤ 64 → s ≤ l → l < length ws → inputOn (getD ws l 0) n ≡ own ps n l)

@@ -1,21 +1,21 @@
 -- A bit of a word, and what a state has from the states above it.
 use mathlib.Core.Path.{_≡_, refl, sym, ap, _∙_}
 use mathlib.Core.Logic.{_⊎_, inl, inr, _≢_}
-use Prim.Native.Nat.{ℕ, zero, suc, _+_, _*_, _-_, _/_, _%_, _^_, _<_, _≤_, max}
+use Prim.Native.Nat.{ℕ, zero, suc, _+_, _*_, _-_, _/_, _%_, _^_, _<_, _≤_, min, max}
 use native.Mathlib.Omega.{arith}
 use native.Mathlib.Decide.{ℕ-discrete, decLe}
 use mathlib.Core.Bool.{Bool, true, false, _&&_, _||_}
 use mathlib.Core.List.{List}
 use lib.Dec.{eqb}
-use lib.ListN.{length, getD, set}
+use lib.ListN.{length, getD, set, length-set}
 use lib.Seq.{getD-set-same, getD-set-other}
-use lib.Bits.{bitOr, or-step, or-shr}
-use lib.Pow.{pow-add, pow-lt, shl-shr, shl-exact}
-use native.Mathlib.Nat.{div-eq-of-lt}
-use borrow.Author.Tests.{eq-eqb, ne-eqb, eqb-true}
+use lib.Bits.{bitOr, bitAnd, or-step, or-shr, and-step, and-shr}
+use lib.Pow.{pow-add, pow-lt, shl-shr, shl-exact, shr-shr}
+use native.Mathlib.Nat.{div-eq-of-lt, div-one}
+use borrow.Author.Tests.{eq-eqb, ne-eqb, eqb-true, eqb-false}
 use Rattle.meaning.specs.Rows.{some}
 use Rattle.meaning.specs.RowsLaws.{which, same-test, and-l, and-r, and-both, or-cases, or-l, or-r, some-yes, some-intro}
-use Rattle.meaning.specs.Tables.{Tables, mostDepth, stateCount, superState, pairCount, mostStates, pairNumber, pairState}
+use Rattle.meaning.specs.Tables.{Tables, mostDepth, stateCount, superState, pairCount, pairNumber, pairState}
 use Rattle.meaning.specs.Hierarchy.{up, atOrAbove, paired}
 use Rattle.meaning.specs.HierarchyLaws.{at-or-above-tells, up-super, up-add}
 use Rattle.meaning.specs.Literals.{inputOn}
@@ -38,6 +38,47 @@ unfolding inputOn
 or-on a b n =
     ap (λ w. eqb (w % 2) 1) (or-shr a b (n - 1) ∙ or-step (a / 2 ^ (n - 1)) (b / 2 ^ (n - 1)))
     ∙ odd (bitOr (a / 2 ^ (n - 1) / 2) (b / 2 ^ (n - 1) / 2)) (a / 2 ^ (n - 1) % 2) (b / 2 ^ (n - 1) % 2) (omega arith) (omega arith)
+
+-- the last bit of two numbers' and
+odd-and : (p x y : ℕ) → x < 2 → y < 2 → eqb ((p * 2 + min x y) % 2) 1 ≡ (eqb x 1 && eqb y 1)
+odd-and p zero zero h k = ap (λ z. eqb z 1) (let z : (p * 2 + 0) % 2 ≡ 0 = omega arith in z)
+odd-and p zero (suc zero) h k = ap (λ z. eqb z 1) (let z : (p * 2 + 0) % 2 ≡ 0 = omega arith in z)
+odd-and p (suc zero) zero h k = ap (λ z. eqb z 1) (let z : (p * 2 + 0) % 2 ≡ 0 = omega arith in z)
+odd-and p (suc zero) (suc zero) h k = ap (λ z. eqb z 1) (let z : (p * 2 + 1) % 2 ≡ 1 = omega arith in z)
+odd-and p (suc (suc x)) y h k = absurd (omega arith)
+odd-and p zero (suc (suc y)) h k = absurd (omega arith)
+odd-and p (suc zero) (suc (suc y)) h k = absurd (omega arith)
+
+-- a bit of a & b
+pub and-on : (a b n : ℕ) → inputOn (bitAnd a b) n ≡ (inputOn a n && inputOn b n)
+unfolding inputOn
+and-on a b n =
+    ap (λ w. eqb (w % 2) 1) (and-shr a b (n - 1) ∙ and-step (a / 2 ^ (n - 1)) (b / 2 ^ (n - 1)))
+    ∙ odd-and (bitAnd (a / 2 ^ (n - 1) / 2) (b / 2 ^ (n - 1) / 2)) (a / 2 ^ (n - 1) % 2) (b / 2 ^ (n - 1) % 2) (omega arith) (omega arith)
+
+-- a word's bits but the lowest are those of its half
+half-on : (w n : ℕ) → 1 ≤ n → inputOn w (suc n) ≡ inputOn (w / 2) n
+unfolding inputOn
+half-on w n h = let e : suc n - 1 ≡ 1 + (n - 1) = omega arith in ap (λ k. eqb (w / 2 ^ k % 2) 1) e ∙ ap (λ x. eqb (x % 2) 1) (sym (shr-shr w 1 (n - 1)))
+
+-- the lowest bit
+first-on : (w : ℕ) → inputOn w 1 ≡ eqb (w % 2) 1
+unfolding inputOn
+first-on w = ap (λ x. eqb (x % 2) 1) (div-one w)
+
+same-digit : (v w : ℕ) → eqb (v % 2) 1 ≡ eqb (w % 2) 1 → v % 2 ≡ w % 2
+same-digit v w e = elim (which (eqb (w % 2) 1)) [
+  | inl f ↦ eqb-true (v % 2) 1 (e ∙ f) ∙ sym (eqb-true (w % 2) 1 f)
+  | inr f ↦ (let a = eqb-false (v % 2) 1 (e ∙ f) in let b = eqb-false (w % 2) 1 f in omega (arith, a, b))
+]
+
+-- words with the same bits are the same
+pub same-bits : (k v w : ℕ) → v < 2 ^ k → w < 2 ^ k → ((n : ℕ) → 1 ≤ n → n ≤ k → inputOn v n ≡ inputOn w n) → v ≡ w
+same-bits zero v w h g f = omega arith
+same-bits (suc k) v w h g f =
+    let low : v % 2 ≡ w % 2 = same-digit v w (sym (first-on v) ∙ f 1 (omega arith) (omega arith) ∙ first-on w) in
+    let high : v / 2 ≡ w / 2 = same-bits k (v / 2) (w / 2) (omega arith) (omega arith) (λ n p q. sym (half-on v n p) ∙ f (suc n) (omega arith) (omega arith) ∙ half-on w n p) in
+    omega arith
 
 -- the bit of one weight
 single : (k j : ℕ) → eqb (2 ^ k / 2 ^ j % 2) 1 ≡ eqb k j
@@ -101,7 +142,7 @@ zero-on n = let z : 0 / 2 ^ (n - 1) ≡ 0 = div-eq-of-lt (pos-pow (n - 1)) in ap
     pos-pow k = omega (arith, pow-lt {i = 0} {j = suc k} (omega arith))
 
 -- the root stays the root
-root-stays : (c : Tables) → superState c 0 ≡ 0 → (k : ℕ) → up c k 0 ≡ 0
+pub root-stays : (c : Tables) → superState c 0 ≡ 0 → (k : ℕ) → up c k 0 ≡ 0
 unfolding up
 root-stays c e zero = refl
 root-stays c e (suc k) = ap (superState c) (root-stays c e k) ∙ e
@@ -190,13 +231,13 @@ paired-root c ps n t h = same-test (paired c ps n 0) (own ps n 0) there back
 
 -- ---- from the root down
 
-pub root-done : (c : Tables) (ps ws : List ℕ) → Tree c → Own ps ws → Upto c ps ws 1
-root-done c ps ws t o = (
-  (λ n l h k g f. let z : l ≡ 0 = omega arith in rw z (o .1 n 0 h k (omega arith) ∙ sym (paired-root c ps n t (omega arith)))),
-  (λ n l h k g f. o .1 n l h k f),
+pub root-done : (c : Tables) (ps ws : List ℕ) → Tree c → stateCount c ≤ length ws → Own ps ws → Upto c ps ws 1
+root-done c ps ws t e o = (
+  (λ n l h k g f. let z : l ≡ 0 = omega arith in rw z (o n 0 h k (omega arith) ∙ sym (paired-root c ps n t (omega arith)))),
+  (λ n l h k g f. o n l h k f),
 )
 
-pub inherited : (c : Tables) (ps ws : List ℕ) (s : ℕ) → Tree c → 1 ≤ s → s < stateCount c → length ws ≡ mostStates → Upto c ps ws s
+pub inherited : (c : Tables) (ps ws : List ℕ) (s : ℕ) → Tree c → 1 ≤ s → s < stateCount c → stateCount c ≤ length ws → Upto c ps ws s
     → Upto c ps (set ws s (bitOr (getD ws s 0) (getD ws (superState c s) 0))) (s + 1)
 inherited c ps ws s t h k e u = (below, above)
   where
@@ -204,17 +245,17 @@ inherited c ps ws s t h k e u = (below, above)
     smaller = t .hierarchy s k .smaller (λ z. omega (arith, z))
 
     within : s < length ws
-    within = omega (arith, e, t .few)
+    within = omega arith
 
     below : (n l : ℕ) → 1 ≤ n → n ≤ 64 → l < s + 1 → l < stateCount c → inputOn (getD (set ws s (bitOr (getD ws s 0) (getD ws (superState c s) 0))) l 0) n ≡ paired c ps n l
     below n l p q g f = elim (ℕ-discrete l s) [
       | yes z ↦ rw (z, getD-set-same ws s (bitOr (getD ws s 0) (getD ws (superState c s) 0)) 0 within)
           (or-on (getD ws s 0) (getD ws (superState c s) 0) n
-          ∙ ap (λ b. b || inputOn (getD ws (superState c s) 0) n) (u .1 n s p q (omega arith) (omega (arith, e)))
+          ∙ ap (λ b. b || inputOn (getD ws (superState c s) 0) n) (u .1 n s p q (omega arith) within)
           ∙ ap (λ b. own ps n s || b) (u .0 n (superState c s) p q smaller (omega (arith, smaller)))
           ∙ sym (paired-step c ps n s t k))
       | no z ↦ rw (getD-set-other ws s l (bitOr (getD ws s 0) (getD ws (superState c s) 0)) 0 z) (u .0 n l p q (omega (arith, z)) f)
     ]
 
-    above : (n l : ℕ) → 1 ≤ n → n ≤ 64 → s + 1 ≤ l → l < mostStates → inputOn (getD (set ws s (bitOr (getD ws s 0) (getD ws (superState c s) 0))) l 0) n ≡ own ps n l
-    above n l p q g f = rw (getD-set-other ws s l (bitOr (getD ws s 0) (getD ws (superState c s) 0)) 0 (λ z. omega (arith, z))) (u .1 n l p q (omega arith) f)
+    above : (n l : ℕ) → 1 ≤ n → n ≤ 64 → s + 1 ≤ l → l < length (set ws s (bitOr (getD ws s 0) (getD ws (superState c s) 0))) → inputOn (getD (set ws s (bitOr (getD ws s 0) (getD ws (superState c s) 0))) l 0) n ≡ own ps n l
+    above n l p q g f = rw (getD-set-other ws s l (bitOr (getD ws s 0) (getD ws (superState c s) 0)) 0 (λ z. omega (arith, z))) (u .1 n l p q (omega arith) (rw length-set at f))

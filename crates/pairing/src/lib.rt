@@ -6,9 +6,9 @@ ghost use Prim.Native.Nat.{ℕ, _<_, _≤_};
 ghost use lib.ListN.{length, getD, set};
 ghost use lib.Dec.{eqb};
 ghost use lib.Bits.{bitOr};
-ghost use Rattle.meaning.specs.Tables.{Tables, superState};
+ghost use Rattle.meaning.specs.Tables.{Tables, stateCount, superState};
 ghost use Rattle.meaning.specs.Literals.{inputOn};
-ghost use Rattle.pairing.specs.Words.{Tree, rowAt, Own, PairedWords};
+ghost use Rattle.pairing.specs.Words.{Tree, rowAt, Own, Clear, PairedWords};
 
 // The word with number n beside its own.
 fn with(w: u64, n: usize) -> u64
@@ -36,17 +36,15 @@ fn add_row(pairs: &[u16], i: usize, words: &mut [u64])
     words[a] = with(words[a], n);
 }
 
-// The numbers paired with each state itself.
-fn own_words(pairs: &[u16]) -> [u64; 256]
-    ensures { λ r. ⌜ Own (now (pairs .entry)) r ⌝ }
+// The numbers paired with each state itself, in words that have none yet.
+fn own_words(pairs: &[u16], words: &mut [u64])
+    ensures { λ _. ⌜ (Clear (now (words .entry)) → Own (now (pairs .entry)) (now (words .exit))) ⌝ }
 {
-    let mut words = [0u64; 256];
     let mut i = 0;
     while i < pairs.len() / 2 {
-        add_row(pairs, i, &mut words);
+        add_row(pairs, i, words);
         i += 1;
     }
-    words
 }
 
 // What is paired with its super-state counts for s too.
@@ -64,15 +62,15 @@ fn inherit(states: &[u16], s: usize, words: &mut [u64])
     words[s] = words[s] | words[a];
 }
 
-// From the root down: a super-state has a smaller number than its sub-state, and so is done before it.
-pub fn paired_words(states: &[u16], pairs: &[u16]) -> [u64; 256]
-    ensures { λ r. ⌜ ((c : Tables) → c .states ≡ now (states .entry) → Tree c → PairedWords c (now (pairs .entry)) r) ⌝ }
+// From the root down: a super-state has a smaller number than its sub-state, and so is done before it. The words are
+// lent, as many as there are states or more, and have no number yet.
+pub fn paired_words(states: &[u16], pairs: &[u16], words: &mut [u64])
+    ensures { λ _. ⌜ ((c : Tables) → c .states ≡ now (states .entry) → Tree c → stateCount c ≤ length (now (words .entry)) → Clear (now (words .entry)) → PairedWords c (now (pairs .entry)) (now (words .exit))) ⌝ }
 {
-    let mut words = own_words(pairs);
+    own_words(pairs, words);
     let mut s = 1;
     while s < states.len() / 2 {
-        inherit(states, s, &mut words);
+        inherit(states, s, words);
         s += 1;
     }
-    words
 }

@@ -1,46 +1,23 @@
--- Flags one after the other, and the walk down to the active leaf.
-use mathlib.Core.Path.{_≡_, refl, sym, ap, _∙_}
-use mathlib.Core.Logic.{_≢_, inl, inr}
+-- The memory in an array, and the walk down to the active leaf.
+use mathlib.Core.Path.{_≡_, sym, _∙_}
+use mathlib.Core.Logic.{inl, inr}
 use Prim.Native.Nat.{ℕ, zero, suc, _+_, _-_, _≤_, _<_}
 use native.Mathlib.Omega.{arith}
-use native.Mathlib.Decide.{ℕ-discrete}
-use mathlib.Core.Bool.{Bool, true, false, cond, _&&_, _||_, or-true, or-false, and-true, and-false}
+use mathlib.Core.Bool.{true}
 use mathlib.Core.List.{List}
-use lib.ListN.{length, getD, set, take}
-use lib.Seq.{getD-set-same, getD-set-other, getD-take, ext-getD}
-use lib.Dec.{eqb}
+use lib.ListN.{length, getD, take}
+use lib.Seq.{getD-take, ext-getD}
 use borrow.Author.Tests.{eq-eqb, ne-eqb}
-use Rattle.meaning.specs.Rows.{some, table}
-use Rattle.meaning.specs.RowsLaws.{which, length-table, getD-table, some-same}
-use Rattle.meaning.specs.Tables.{Tables, mostDepth, mostStates, stateCount, pairCount, pairNumber, pairState}
-use Rattle.meaning.specs.Hierarchy.{depth, atOrAbove, leaf, paired}
+use Rattle.meaning.specs.Rows.{table}
+use Rattle.meaning.specs.RowsLaws.{which, length-table, getD-table}
+use Rattle.meaning.specs.Tables.{Tables, mostDepth, stateCount}
+use Rattle.meaning.specs.Hierarchy.{depth, leaf}
 use Rattle.meaning.specs.Rules.{Rules}
 use Rattle.meaning.specs.TreeLaws.{shallow}
 use Rattle.meaning.specs.FollowLaws.{Leads, stops, goes, super-known, depth-below, follow-same, follow-known}
 use Rattle.meaning.specs.Machine.{remembered, descend, follow, activeLeaf}
 use Rattle.meaning.specs.MachineLaws.{Sound}
-use Rattle.paths.specs.Flags.{on, Path, rowOn, walk}
-
--- ---- flags
-
--- one more flag is set
-pub on-set : (fs : List ℕ) (n k : ℕ) → k < length fs → on (set fs n 1) k ≡ (on fs k || eqb n k)
-on-set fs n k h = elim (ℕ-discrete n k) [
-  | yes e ↦ rw (e, getD-set-same fs k 1 0 h, eq-eqb k k refl) (sym (or-true (on fs k)))
-  | no d ↦ rw (getD-set-other fs n k 1 0 (λ z. d (sym z)), ne-eqb n k d) (sym (or-false (on fs k)))
-]
-
--- one more flag is set, or not
-pub on-set-if : (fs : List ℕ) (n k : ℕ) (b : Bool) → k < length fs → on (cond b (set fs n 1) fs) k ≡ (on fs k || (eqb n k && b))
-on-set-if fs n k true h = rw (and-true (eqb n k)) (on-set fs n k h)
-on-set-if fs n k false h = rw (and-false (eqb n k)) (sym (or-false (on fs k)))
-
--- with the flags of the path the rows of a pair table say who is paired on it
-pub rows-paired : (c : Tables) (ps : List ℕ) (l : ℕ) (fs : List ℕ) → Path c l fs → ((i : ℕ) → i < pairCount ps → pairState ps i < mostStates)
-    → (n : ℕ) → some (rowOn ps fs n) 0 (pairCount ps) ≡ paired c ps n l
-unfolding paired
-rows-paired c ps l fs p h n = some-same (rowOn ps fs n) (λ i. eqb (pairNumber ps i) n && atOrAbove c (pairState ps i) l) 0 (pairCount ps)
-    (λ k a b. ap (λ d. eqb (pairNumber ps k) n && d) (p (pairState ps k) (h k (omega arith))))
+use Rattle.paths.specs.Flags.{walk}
 
 -- ---- parts of an array
 

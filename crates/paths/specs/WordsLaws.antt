@@ -1,29 +1,25 @@
--- Bits of words, and the words that the loops over the pairs make.
+-- Bits of words, and the word of the outputs that are on.
 use mathlib.Core.Path.{_≡_, refl, sym, ap, ap₂, _∙_}
-use mathlib.Core.Logic.{_⊎_, _≢_, inl, inr}
+use mathlib.Core.Logic.{_⊎_, inl, inr}
 use Prim.Native.Nat.{ℕ, zero, suc, _+_, _*_, _-_, _/_, _%_, _^_, _≤_, _<_, min, max}
 use native.Mathlib.Omega.{arith}
 use native.Mathlib.Decide.{ℕ-discrete, decLe}
-use native.Mathlib.Nat.{pow-succ', div-eq-of-lt, div-one, one-mul, mod-eq-of-lt}
+use native.Mathlib.Nat.{pow-succ', div-eq-of-lt, one-mul, mod-eq-of-lt}
 use mathlib.Core.Bool.{Bool, true, false, not, cond, _&&_, _||_, and-true, and-false, or-false}
-use mathlib.Core.List.{List}
-use lib.ListN.{length, getD, set, List·getD-eq-default}
-use lib.Seq.{getD-set-same, getD-set-other}
+use lib.ListN.{getD, List·getD-eq-default}
 use lib.Dec.{eqb}
-use lib.Pow.{pow-lt, pow-pos, shr-shr}
+use lib.Pow.{pow-lt, pow-pos}
 use lib.Bits.{bitOr, bitAnd, or-step, or-shr, and-shr, and-step, and-zero-r}
-use borrow.Author.Tests.{eq-eqb, ne-eqb, eqb-true, lt-ltb, le-ltb, ltb-true}
+use borrow.Author.Tests.{eq-eqb, ne-eqb}
 use Rattle.meaning.specs.Literals.{inputOn}
+use Rattle.meaning.specs.BitLaws.{low-bit, half-bit}
 use Rattle.meaning.specs.Machine.{wordOf}
 use Rattle.meaning.specs.Rows.{table}
-use Rattle.meaning.specs.Rows.{some}
-use Rattle.meaning.specs.RowsLaws.{or-l, or-r, or-cases, same-test, some-yes, some-intro, some-none, length-table, getD-table, some-same}
-use Rattle.meaning.specs.Tables.{Tables, stateCount, superState, pairCount, pairNumber, pairState}
+use Rattle.meaning.specs.RowsLaws.{some-none, length-table, getD-table}
+use Rattle.meaning.specs.Tables.{Tables, pairCount, pairNumber, pairState}
 use Rattle.meaning.specs.Hierarchy.{atOrAbove, paired, outputOn}
 use Rattle.meaning.specs.Rules.{Rules}
-use Rattle.meaning.specs.TreeLaws.{depth-root, depth-sub, depth-zero, super-lt, over-yes, yes-over, over-le, over-lt, over-refl, over-trans, over-down, over-super}
 use Rattle.meaning.specs.OutputLaws.{word-table}
-use Rattle.paths.specs.Words.{rowAt, Own, Worded, WordedTo}
 
 -- ---- one digit
 
@@ -69,17 +65,6 @@ and-bit a b n = rw (and-shr a b (n - 1)) (and-digit (a / 2 ^ (n - 1)) (b / 2 ^ (
 pub or-bit : (a b n : ℕ) → inputOn (bitOr a b) n ≡ (inputOn a n || inputOn b n)
 unfolding inputOn
 or-bit a b n = rw (or-shr a b (n - 1)) (or-digit (a / 2 ^ (n - 1)) (b / 2 ^ (n - 1)))
-
-pub half-bit : (w k : ℕ) → inputOn w (suc (suc k)) ≡ inputOn (w / 2) (suc k)
-unfolding inputOn
-half-bit w k =
-    let p : suc (suc k) - 1 ≡ 1 + k = omega arith in
-    let q : suc k - 1 ≡ k = omega arith in
-    rw (p, q, ← shr-shr w 1 k)
-
-low-bit : (w : ℕ) → inputOn w 1 ≡ eqb (w % 2) 1
-unfolding inputOn
-low-bit w = let e : w / 2 ^ (1 - 1) ≡ w = div-one w in rw e
 
 eqb-suc : (k n : ℕ) → eqb k n ≡ eqb (suc k) (suc n)
 eqb-suc k n = elim (ℕ-discrete k n) [
@@ -191,76 +176,11 @@ none-one (suc k) x =
     let m : min (x % 2) 0 ≡ 0 = omega arith in
     none-step x (2 ^ suc k) ∙ rw (p, q, m, half-bit x k) (and-true (none (x / 2) (2 ^ k)) ∙ none-one k (x / 2))
 
--- ---- the pairs of each state
-
 -- a one shifted below the width
 pub weight : (k : ℕ) → k < 64 → 1 * 2 ^ k % 18446744073709551616 ≡ 2 ^ k
 weight k h = rw (one-mul (2 ^ k)) (mod-eq-of-lt (pow-lt h))
 
-pub or-assoc : (a b d : Bool) → ((a || b) || d) ≡ (a || (b || d))
-or-assoc true b d = refl
-or-assoc false b d = refl
-
--- a pair that is another's
-pub pair-off : (b : Bool) (p q s n : ℕ) → (p ≡ suc n → q ≡ s → ⊥) → b ≡ (b || (eqb p (suc n) && eqb q s))
-pair-off b p q s n h = elim (ℕ-discrete p (suc n)) [
-  | yes e ↦ rw (ne-eqb q s (h e), and-false (eqb p (suc n))) (sym (or-false b))
-  | no d ↦ rw (ne-eqb p (suc n) d) (sym (or-false b))
-]
-
--- the bit of a pair is set
-pub pair-on : (w : List ℕ) (p q s n : ℕ) → q < length w → 1 ≤ p
-    → inputOn (getD (set w q (bitOr (getD w q 0) (2 ^ (p - 1)))) s 0) (suc n) ≡ (inputOn (getD w s 0) (suc n) || (eqb p (suc n) && eqb q s))
-pair-on w p q s n h i = elim (ℕ-discrete q s) [
-  | yes e ↦ rw (← e, getD-set-same w q (bitOr (getD w q 0) (2 ^ (p - 1))) 0 h, eq-eqb q q refl, and-true (eqb p (suc n)), with-bit (getD w q 0) (p - 1) n)
-      (ap (λ b. inputOn (getD w q 0) (suc n) || b) (let z : p ≡ suc (p - 1) = omega arith in eqb-suc (p - 1) n ∙ ap (λ k. eqb k (suc n)) (sym z)))
-  | no d ↦ rw (getD-set-other w q s (bitOr (getD w q 0) (2 ^ (p - 1))) 0 (λ z. d (sym z)), ne-eqb q s d, and-false (eqb p (suc n))) (sym (or-false (inputOn (getD w s 0) (suc n))))
-]
-
--- ---- and of the states above it
-
-some-or : (p q r : ℕ → Bool) (n : ℕ) → ((k : ℕ) → r k ≡ (p k || q k)) → some r 0 n ≡ (some p 0 n || some q 0 n)
-some-or p q r n h = same-test _ _
-    (λ e. let t = some-yes r 0 n e in elim (or-cases (p (t .0)) (q (t .0)) (sym (h (t .0)) ∙ t .3)) [
-      | inl f ↦ or-l (some p 0 n) (some q 0 n) (some-intro p 0 n (t .0) (omega arith) (omega (arith, t .2)) f)
-      | inr f ↦ or-r (some p 0 n) (some q 0 n) (some-intro q 0 n (t .0) (omega arith) (omega (arith, t .2)) f)
-    ])
-    (λ e. elim (or-cases (some p 0 n) (some q 0 n) e) [
-      | inl f ↦ (let t = some-yes p 0 n f in some-intro r 0 n (t .0) (omega arith) (omega (arith, t .2)) (h (t .0) ∙ or-l (p (t .0)) (q (t .0)) (t .3)))
-      | inr f ↦ (let t = some-yes q 0 n f in some-intro r 0 n (t .0) (omega arith) (omega (arith, t .2)) (h (t .0) ∙ or-r (p (t .0)) (q (t .0)) (t .3)))
-    ])
-
-and-or : (a b d : Bool) → (a && (b || d)) ≡ ((a && b) || (a && d))
-and-or true b d = refl
-and-or false b d = refl
-
 module _ (c : Tables) (R : Rules c) where
-  over-up : (a s : ℕ) → s ≢ 0 → atOrAbove c a s ≡ (eqb a s || atOrAbove c a (superState c s))
-  over-up a s n = same-test _ _
-      (λ e. elim (ℕ-discrete a s) [
-        | yes x ↦ or-l (eqb a s) (atOrAbove c a (superState c s)) (eq-eqb a s x)
-        | no x ↦ (let o = over-yes c R a s e in or-r (eqb a s) (atOrAbove c a (superState c s)) (yes-over c R a (superState c s)
-            (over-down c R a (superState c s) s (over-super c R s n) o (omega (arith, depth-sub c R s n, over-lt c R a s o x)))))
-      ])
-      (λ e. elim (or-cases (eqb a s) (atOrAbove c a (superState c s)) e) [
-        | inl f ↦ (let x = eqb-true a s f in rw x (yes-over c R s s (over-refl c R s)))
-        | inr f ↦ yes-over c R a s (over-trans c R a (superState c s) s (over-yes c R a (superState c s) f) (over-super c R s n))
-      ])
-
-  over-none : (a : ℕ) → atOrAbove c a 0 ≡ eqb a 0
-  over-none a = same-test _ _
-      (λ e. eq-eqb a 0 (depth-zero c R a (omega (arith, over-le c R a 0 (over-yes c R a 0 e), depth-root c R))))
-      (λ e. let x = eqb-true a 0 e in rw x (yes-over c R 0 0 (over-refl c R 0)))
-
-  pub paired-root : (ps : List ℕ) (n : ℕ) → some (rowAt ps n 0) 0 (pairCount ps) ≡ paired c ps n 0
-  unfolding paired
-  paired-root ps n = some-same (rowAt ps n 0) (λ i. eqb (pairNumber ps i) n && atOrAbove c (pairState ps i) 0) 0 (pairCount ps) (λ k a b. ap (λ d. eqb (pairNumber ps k) n && d) (sym (over-none (pairState ps k))))
-
-  pub paired-up : (ps : List ℕ) (n s : ℕ) → s ≢ 0 → paired c ps n s ≡ (some (rowAt ps n s) 0 (pairCount ps) || paired c ps n (superState c s))
-  unfolding paired
-  paired-up ps n s h = some-or (rowAt ps n s) (λ i. eqb (pairNumber ps i) n && atOrAbove c (pairState ps i) (superState c s)) (λ i. eqb (pairNumber ps i) n && atOrAbove c (pairState ps i) s) (pairCount ps)
-      (λ k. ap (λ d. eqb (pairNumber ps k) n && d) (over-up (pairState ps k) s h) ∙ and-or (eqb (pairNumber ps k) n) (eqb (pairState ps k) s) (atOrAbove c (pairState ps k) (superState c s)))
-
   -- the word of the outputs that are on
   pub word-seen : (l w : ℕ) → w < 2 ^ 64 → ((n : ℕ) → n < 64 → inputOn w (suc n) ≡ paired c (c .outputPairs) (suc n) l) → w ≡ wordOf (table (λ o. outputOn c o l) 1 (c .outputs))
   unfolding outputOn
@@ -275,33 +195,3 @@ module _ (c : Tables) (R : Rules c) where
             ap (λ d. d && atOrAbove c (pairState (c .outputPairs) i) l) (ne-eqb (pairNumber (c .outputPairs) i) (1 + k) (λ e. omega (arith, e, R .outputPairs i (omega arith) .high)))))
         | no z ↦ List·getD-eq-default (table _ 1 64) false (rw (length-table (λ o. paired c (c .outputPairs) o l) 1 64) (omega arith))
       ]
-
-  -- one state more, from its super-state's word
-  pub worded-more : (ps w : List ℕ) (i : ℕ) → 0 < i → i < stateCount c → stateCount c ≤ length w → WordedTo c ps i w
-      → WordedTo c ps (suc i) (set w i (bitOr (getD w i 0) (getD w (superState c i) 0)))
-  worded-more ps w i h k long f s n a b =
-      let lt = super-lt c R i (λ e. omega arith) in
-      elim (ℕ-discrete s i) [
-        | yes e ↦ rw (
-          e,
-          getD-set-same w i (bitOr (getD w i 0) (getD w (superState c i) 0)) 0 (omega arith),
-          or-bit (getD w i 0) (getD w (superState c i) 0) (suc n),
-          f i n k b,
-          f (superState c i) n (omega arith) b,
-          lt-ltb (superState c i) i lt,
-          le-ltb i i (omega arith),
-          lt-ltb i (suc i) (omega arith),
-        ) (sym (paired-up ps (suc n) i (λ z. omega arith)))
-        | no d ↦ rw (getD-set-other w i s (bitOr (getD w i 0) (getD w (superState c i) 0)) 0 d) (f s n a b ∙ ap (λ t. cond t (paired c ps (suc n) s) (some (rowAt ps (suc n) s) 0 (pairCount ps))) (same-test _ _
-            (λ e. lt-ltb s (suc i) (omega (arith, ltb-true s i e))) (λ e. lt-ltb s i (omega (arith, ltb-true s (suc i) e)))))
-      ]
-
-  -- the root has no more than its own
-  pub worded-root : (ps w : List ℕ) → Own c ps w → WordedTo c ps 1 w
-  worded-root ps w f s n a b = elim (ℕ-discrete s 0) [
-    | yes e ↦ rw (lt-ltb s 1 (omega arith)) (f s n a b ∙ rw e (paired-root ps (suc n)))
-    | no d ↦ rw (le-ltb s 1 (omega arith)) (f s n a b)
-  ]
-
-  pub worded-all : (ps w : List ℕ) (i : ℕ) → stateCount c ≤ i → WordedTo c ps i w → Worded c ps w
-  worded-all ps w i h f s n a b = f s n a b ∙ rw (lt-ltb s i (omega arith))

@@ -1,20 +1,15 @@
-// What the active path tells, for any tables at all: the leaf, the states on its path as flags, which timers run and are
-// expired, which outputs are on.
+// What the active path tells, for any tables at all: the leaf, which timers run and are expired, which outputs are on.
 use tables::Chart;
 ghost use mathlib.Core.Path.{_≡_};
-ghost use mathlib.Core.Bool.{cond, _&&_, _||_};
+ghost use mathlib.Core.Bool.{_&&_, _||_};
 ghost use lib.Dec.{eqb};
 ghost use Prim.Native.Nat.{ℕ, suc, _<_, _≤_, _^_};
-ghost use lib.ListN.{length, getD, set};
-ghost use Rattle.meaning.specs.Rows.{some};
-ghost use Rattle.meaning.specs.Tables.{Tables, stateCount, superState, pairCount};
+ghost use lib.ListN.{length, getD};
 ghost use Rattle.meaning.specs.Machine.{remembered};
 ghost use Rattle.meaning.specs.Literals.{inputOn};
 ghost use lib.Bits.{bitOr};
-ghost use Rattle.paths.specs.Flags.{on, Path, rowOn, walk};
-ghost use Rattle.paths.specs.Words.{expiredAt, rowAt, Own, Worded};
-ghost use mathlib.Core.List.{List};
-ghost use Rattle.meaning.specs.Rules.{Rules};
+ghost use Rattle.paths.specs.Flags.{on, walk};
+ghost use Rattle.paths.specs.Words.{expiredAt};
 
 fn wide(x: u16) -> usize
     ensures { λ r. ⌜ r ≡ x ⌝ }
@@ -29,17 +24,6 @@ pub fn flag(flags: &[u8], n: usize) -> bool
         return false;
     }
     flags[n] == 1
-}
-
-fn set_flag(flags: &mut [u8], n: usize, b: bool)
-    ensures { λ _. ⌜ now (flags .exit) ≡ cond b (set (now (flags .entry)) n 1) (now (flags .entry)) ⌝ }
-{
-    if !b {
-        return;
-    }
-    if n < flags.len() {
-        flags[n] = 1;
-    }
 }
 
 pub fn remembered(memory: &[u16], a: usize) -> usize
@@ -66,41 +50,6 @@ pub fn active_leaf(memory: &[u16]) -> usize
         k += 1;
     }
     s
-}
-
-// The flags of the states at or above the leaf l, so that any of them is looked up at once.
-pub fn path_of(states: &[u16], l: usize) -> [u8; 256]
-    ensures { λ r. ⌜ ((c : Tables) → c .states ≡ now (states .entry) → Path c l r) ⌝ }
-{
-    let mut path = [0u8; 256];
-    let mut s = l;
-    let mut k = 0;
-    while k <= Chart::DEPTH {
-        set_flag(&mut path, s, true);
-        s = tables::super_state(states, s);
-        k += 1;
-    }
-    path
-}
-
-fn flag_row(pairs: &[u16], path: &[u8], i: usize, flags: &mut [u8])
-    ensures { λ _. ⌜ ((n : ℕ) → n < length (now (flags .entry)) → on (now (flags .exit)) n ≡ (on (now (flags .entry)) n || rowOn (now (pairs .entry)) (now (path .entry)) n i)) ⌝ }
-{
-    let b = flag(path, tables::pair_state(pairs, i));
-    set_flag(flags, tables::pair_number(pairs, i), b);
-}
-
-// "A timer runs when a paired state is on the path.", and so for outputs: one look at each pair.
-pub fn paired_on(pairs: &[u16], path: &[u8]) -> [u8; 65]
-    ensures { λ r. ⌜ ((n : ℕ) → n < 65 → on r n ≡ some (rowOn (now (pairs .entry)) (now (path .entry)) n) 0 (pairCount (now (pairs .entry)))) ⌝ }
-{
-    let mut flags = [0u8; 65];
-    let mut i = 0;
-    while i < pairs.len() / 2 {
-        flag_row(pairs, path, i, &mut flags);
-        i += 1;
-    }
-    flags
 }
 
 pub fn value(values: &[u32], i: usize) -> u32
@@ -175,66 +124,4 @@ pub fn word(words: &[u64], s: usize) -> u64
         return 0;
     }
     words[s]
-}
-
-fn add_pair(pairs: &[u16], i: usize, words: &mut [u64])
-    ensures { λ _. ⌜ ((s n : ℕ) → s < length (now (words .entry)) → n < 64
-        → inputOn (getD (now (words .exit)) s 0) (suc n) ≡ (inputOn (getD (now (words .entry)) s 0) (suc n) || rowAt (now (pairs .entry)) (suc n) s i)) ⌝ }
-{
-    let n = tables::pair_number(pairs, i);
-    let s = tables::pair_state(pairs, i);
-    if n < 1 {
-        return;
-    }
-    if 64 < n {
-        return;
-    }
-    if s < words.len() {
-        words[s] = with_bit(words[s], n - 1);
-    }
-}
-
-// Each state's own pairs.
-fn add_pairs(pairs: &[u16], words: &mut [u64])
-    ensures { λ _. ⌜ ((s n : ℕ) → s < length (now (words .entry)) → n < 64
-        → inputOn (getD (now (words .exit)) s 0) (suc n) ≡ (inputOn (getD (now (words .entry)) s 0) (suc n) || some (rowAt (now (pairs .entry)) (suc n) s) 0 (pairCount (now (pairs .entry))))) ⌝ }
-{
-    let mut i = 0;
-    while i < pairs.len() / 2 {
-        add_pair(pairs, i, words);
-        i += 1;
-    }
-}
-
-fn add_super(states: &[u16], s: usize, words: &mut [u64])
-    ensures { λ _. ⌜ ((c : Tables) → c .states ≡ now (states .entry) → superState c s < s
-        → now (words .exit) ≡ set (now (words .entry)) s (bitOr (getD (now (words .entry)) s 0) (getD (now (words .entry)) (superState c s) 0))) ⌝ }
-{
-    let a = tables::super_state(states, s);
-    if words.len() <= s {
-        return;
-    }
-    if a < s {
-        words[s] = words[s] | words[a];
-    }
-}
-
-// And those of the states above: "Every other super-state has a smaller number than its sub-state", so one way up suffices.
-fn add_supers(states: &[u16], words: &mut [u64])
-    ensures { λ _. ⌜ ((c : Tables) (ps : List ℕ) → c .states ≡ now (states .entry) → Rules c → stateCount c ≤ length (now (words .entry)) → Own c ps (now (words .entry)) → Worded c ps (now (words .exit))) ⌝ }
-{
-    let mut s = 1;
-    while s < states.len() / 2 {
-        add_super(states, s, words);
-        s += 1;
-    }
-}
-
-// Once for all scans: of each state, the timers or outputs that are paired with it or with a state above it.
-pub fn make_words(states: &[u16], pairs: &[u16], words: &mut [u64])
-    ensures { λ _. ⌜ ((c : Tables) → c .states ≡ now (states .entry) → Rules c → stateCount c ≤ length (now (words .entry)) → ((s : ℕ) → getD (now (words .entry)) s 0 ≡ 0)
-        → Worded c (now (pairs .entry)) (now (words .exit))) ⌝ }
-{
-    add_pairs(pairs, words);
-    add_supers(states, words);
 }

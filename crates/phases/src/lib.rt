@@ -8,6 +8,7 @@ use meaning::Operator;
 ghost use mathlib.Core.Path.{_≡_};
 ghost use Prim.Native.Nat.{suc};
 ghost use lib.Dec.{eqb};
+ghost use Rattle.format.specs.Decode.{decoded};
 ghost use Rattle.format.specs.Phases as Phases;
 ghost use Rattle.phases.specs.Pass.{WordsPassed};
 
@@ -302,12 +303,54 @@ pub fn may_end(s: Reading) -> bool
 }
 
 // What the reader knows after one word more.
-pub fn step_word(s: Reading, d: Decoded) -> Reading
+fn step_word(s: Reading, d: Decoded) -> Reading
     ensures { λ r. ⌜ r ≡ Phases.stepWord s d ⌝ }
 {
     match d {
         Decoded::Known(i) => step(s, i),
         Decoded::Unknown => to(Phase::Refused, s),
+    }
+}
+
+// The same for the word itself: %IXn and what follows it.
+fn step_far(s: Reading, w: u32) -> Reading
+    ensures { λ r. ⌜ r ≡ Phases.stepWord s (decoded w) ⌝ }
+{
+    let m = w % 134217728;
+    if m < 385 {
+        return step_word(s, decode::decode(w));
+    }
+    if 448 < m {
+        return step_word(s, decode::decode(w));
+    }
+    let k = w / 134217728;
+    match k {
+        1 => load(0, s),
+        2 => load(0, s),
+        3 => also(0, s),
+        4 => also(0, s),
+        _ => step_word(s, decode::decode(w)),
+    }
+}
+
+// The same for any word: most are on %MX0 to %MX255, and need not be taken apart further.
+fn step_near(s: Reading, w: u32) -> Reading
+    ensures { λ r. ⌜ r ≡ Phases.stepWord s (decoded w) ⌝ }
+{
+    let m = w % 134217728;
+    if 255 < m {
+        return step_far(s, w);
+    }
+    let k = w / 134217728;
+    match k {
+        1 => load(0, s),
+        2 => load(0, s),
+        3 => also(0, s),
+        4 => also(0, s),
+        7 => store(s),
+        8 => store(s),
+        9 => store(s),
+        _ => step_word(s, decode::decode(w)),
     }
 }
 
@@ -318,8 +361,7 @@ pub fn words_pass(words: &[u32]) -> Passed
     let mut s = begin(0, 32);
     let mut i = 0;
     while i < words.len() {
-        let d = decode::decode(words[i]);
-        let next = step_word(s, d);
+        let next = step_near(s, words[i]);
         if alive(next) {
             s = next;
             i += 1;

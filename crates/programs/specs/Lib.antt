@@ -2,3 +2,4 @@ pub mod Runs
 pub mod RunLaws
 pub mod KeptLaws
 pub mod RunTheorems
+pub mod Once

@@ -25,7 +25,7 @@ use Rattle.format.specs.Places.{WordPlace}
 use Rattle.meaning.specs.RowsLaws.{which}
 use mathlib.Core.Logic.{inl, inr}
 use Rattle.il.specs.Scans.{holding, Fitting}
-use Rattle.controller.specs.Sizes.{bytesNamed, rungsIn, noRungs, SizesOf, sizes-of}
+use Rattle.controller.specs.Sizes.{bytesNamed, rungsIn, noRungs, Asks, program-asks}
 use Rattle.controller.specs.Validity.{AreBits, time-at, some-rung, few-timers}
 use Rattle.row.specs.Row.{inItsTime, inTime, RowScan, RowRun, runOf}
 use Rattle.row.specs.RowLaws.{row-scan-right, row-run-right}
@@ -55,10 +55,10 @@ all-in-time (b ∷ bs) ts i ok e h = all-in-time bs ts (suc i) (ok && inItsTime 
 
 -- ---- what the tests come to
 
--- the lent bytes, so many blocks, and whether they are in time
-pub record StatePasses (ws fs : List ℕ) (n : ℕ) (timely : Bool) : Type 0 where
+-- the lent bytes, n blocks where q are declared, and whether they are in time
+pub record StatePasses (ws fs : List ℕ) (n q : ℕ) (timely : Bool) : Type 0 where
   pub size : length fs ≡ bytesNamed ws
-  pub blocks : n ≡ rungsIn ws noRungs .count
+  pub blocks : n ≡ q
   pub bits : AreBits fs
   pub times : timely ≡ true
 
@@ -66,32 +66,30 @@ abbrev pub timelyOf : List ℕ → List Block → Bool
 timelyOf ws bs = inTime 0 bs (rungsIn ws noRungs .times) true
 
 module _ (p : Program) (ws fs : List ℕ) (bs : List Block) (f : Fitting p ws) where
-  asks : SizesOf ws (bytesNamed ws) (rungsIn ws noRungs .count) (rungsIn ws noRungs .times)
-  asks = sizes-of refl refl refl
+  asks : Asks p ws
+  asks = program-asks p ws f
 
   its-time : (t : ℕ) (r : TimerRung) → t < length (p .timers) → getD (rungsIn ws noRungs .times) t 0 ≡ getD (p .timers) t r .time
-  its-time t r h = rw (asks .right p f .2) (time-at (p .timers) t r h (few-timers p ws f))
+  its-time t r h = rw (asks .times) (time-at (p .timers) t r h (few-timers p ws f))
 
-  state-valid : StatePasses ws fs (length bs) (timelyOf ws bs) → ValidController p (holding fs bs)
+  state-valid : StatePasses ws fs (length bs) (length (p .timers)) (timelyOf ws bs) → ValidController p (holding fs bs)
   unfolding inItsTime
   state-valid s =
-      let a = asks .right p f in
-      let n : length bs ≡ length (p .timers) = s .blocks ∙ a .1 in
+      let n : length bs ≡ length (p .timers) = s .blocks in
       record {
         bits = s .bits;
-        size = s .size ∙ a .0;
+        size = s .size ∙ asks .bytes;
         blocks = n;
         times = λ t r h. rw (← its-time t r h) (leb-true (getD bs t blank .et) (getD (rungsIn ws noRungs .times) t 0) (and-r (ltb t 32) _ (in-its-time bs (rungsIn ws noRungs .times) 0 true (s .times) .1 t t (omega arith) (omega (arith, n)))));
       }
 
-  valid-state : ValidController p (holding fs bs) → StatePasses ws fs (length bs) (timelyOf ws bs)
+  valid-state : ValidController p (holding fs bs) → StatePasses ws fs (length bs) (length (p .timers)) (timelyOf ws bs)
   unfolding inItsTime
   valid-state v =
-      let a = asks .right p f in
       let few = few-timers p ws f in
       record {
-        size = v .size ∙ sym (a .0);
-        blocks = v .blocks ∙ sym (a .1);
+        size = v .size ∙ sym (asks .bytes);
+        blocks = v .blocks;
         bits = v .bits;
         times = all-in-time bs (rungsIn ws noRungs .times) 0 true refl (λ t j g h. (let e : j ≡ t = omega arith in let k : t < length (p .timers) = omega (arith, v .blocks) in
             rw e (and-both (ltb t 32) _ (lt-ltb t 32 (omega arith)) (le-leb (getD bs t blank .et) (getD (rungsIn ws noRungs .times) t 0) (rw (its-time t some-rung k) (v .times t some-rung k))))));
@@ -115,7 +113,7 @@ restOf ok fit = cond ok (cond fit G.Accepted (G.Refused Scans)) (G.Refused State
 pub data JudgedBy (d : ℕ) (ws fs : List ℕ) (n : ℕ) (timely : Bool) (i m : ℕ) (v : Verdict) : Type 0 where
   step : between 1 mostStep d ≡ false → v ≡ G.Refused Size → JudgedBy d ws fs n timely i m v
   text : between 1 mostStep d ≡ true → (k : ℕ) → WordPlace ws k → v ≡ G.Refused (Text k) → JudgedBy d ws fs n timely i m v
-  rest : between 1 mostStep d ≡ true → (p : Program) → Fitting p ws → (ok : Bool) → (ok ≡ true) ↔ StatePasses ws fs n timely → v ≡ restOf ok (eqb m i) → JudgedBy d ws fs n timely i m v
+  rest : between 1 mostStep d ≡ true → (p : Program) → Fitting p ws → (ok : Bool) → (ok ≡ true) ↔ StatePasses ws fs n (length (p .timers)) timely → v ≡ restOf ok (eqb m i) → JudgedBy d ws fs n timely i m v
 
 abbrev pub isAccepted : Verdict → Bool
 isAccepted G.Accepted = true
@@ -141,7 +139,7 @@ unfolding refusal
 refused-same e f = sym (ap refusal e) ∙ ap refusal f
 
 module _ {d : ℕ} {ws fs : List ℕ} {bs : List Block} {i m : ℕ} {v : Verdict} where
-  accepts-rest : between 1 mostStep d ≡ true → (p : Program) → Fitting p ws → (ok fit : Bool) → (ok ≡ true) ↔ StatePasses ws fs (length bs) (timelyOf ws bs) → fit ≡ eqb m i → v ≡ restOf ok fit → isAccepted v ≡ true → Accepts d ws (holding fs bs) i m p
+  accepts-rest : between 1 mostStep d ≡ true → (p : Program) → Fitting p ws → (ok fit : Bool) → (ok ≡ true) ↔ StatePasses ws fs (length bs) (length (p .timers)) (timelyOf ws bs) → fit ≡ eqb m i → v ≡ restOf ok fit → isAccepted v ≡ true → Accepts d ws (holding fs bs) i m p
   accepts-rest b p f true true h g e a = record { step = b; program = f .program; list = f .list; state = state-valid p ws fs bs f (h .0 refl); scans = eqb-true m i (sym g) }
   accepts-rest b p f true false h g e a = absurd (not-accepted e a)
   accepts-rest b p f false fit h g e a = absurd (not-accepted e a)
@@ -151,7 +149,7 @@ module _ {d : ℕ} {ws fs : List ℕ} {bs : List Block} {i m : ℕ} {v : Verdict
   accepts (JudgedBy.text b k w e) a = absurd (not-accepted e a)
   accepts (JudgedBy.rest b p f ok h e) a = (p, accepts-rest b p f ok (eqb m i) h refl e a)
 
-  refuses-rest : between 1 mostStep d ≡ true → (p : Program) → Fitting p ws → (ok fit : Bool) → (ok ≡ true) ↔ StatePasses ws fs (length bs) (timelyOf ws bs) → fit ≡ eqb m i → v ≡ restOf ok fit → (q : Refusal) → v ≡ G.Refused q → Refuses d ws (holding fs bs) i m q
+  refuses-rest : between 1 mostStep d ≡ true → (p : Program) → Fitting p ws → (ok fit : Bool) → (ok ≡ true) ↔ StatePasses ws fs (length bs) (length (p .timers)) (timelyOf ws bs) → fit ≡ eqb m i → v ≡ restOf ok fit → (q : Refusal) → v ≡ G.Refused q → Refuses d ws (holding fs bs) i m q
   refuses-rest b p f true true h g e q a = absurd (not-accepted a (ap isAccepted e))
   refuses-rest b p f true false h g e q a = Refuses.scans b p (f .program) (f .list) (state-valid p ws fs bs f (h .0 refl)) (eqb-false m i (sym g)) (refused-same a e)
   refuses-rest b p f false fit h g e q a = Refuses.state b p (f .program) (f .list) (λ w. false≢true (h .1 (valid-state p ws fs bs f w))) (refused-same a e)

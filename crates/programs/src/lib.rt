@@ -23,13 +23,11 @@ pub enum Scanned {
     Refused(Refusal),
 }
 
-// 14 STATE, for a lent controller with so many blocks, which are in time or not.
-fn state_passes(words: &[u32], ff: &[u8], count: usize, timely: bool) -> bool
-    ensures { λ r. ⌜ (r ≡ Bool.true) ↔ StatePasses (now (words .entry)) (now (ff .entry)) count timely ⌝ }
+// 14 STATE, for a lent controller with so many blocks, which are in time or not, of a program that declares `blocks`.
+fn state_passes(words: &[u32], ff: &[u8], count: usize, blocks: usize, timely: bool) -> bool
+    ensures { λ r. ⌜ (r ≡ Bool.true) ↔ StatePasses (now (words .entry)) (now (ff .entry)) count blocks timely ⌝ }
 {
-    let asked = controller::controller_size(words);
-    let bytes = asked.bytes;
-    let blocks = asked.blocks;
+    let bytes = controller::flip_flop_bytes(words);
     if ff.len() != bytes {
         return false;
     }
@@ -74,8 +72,8 @@ fn judge(
     }
     let passed = phases::words_pass(words);
     match passed {
-        Passed::Accepted(_) => {
-            let ok = state_passes(words, ff, count, timely);
+        Passed::Accepted(d) => {
+            let ok = state_passes(words, ff, count, d as usize, timely);
             then_scans(ok, scans, results)
         }
         Passed::Refused(k) => Verdict::Refused(Refusal::Text(k)),

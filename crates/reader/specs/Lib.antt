@@ -1,3 +1,4 @@
 pub mod Reads
 pub mod ReadLaws
 pub mod WaysBack
+pub mod Once

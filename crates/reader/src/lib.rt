@@ -87,10 +87,12 @@ fn pass(text: &[u8], out: &mut [u32]) -> Answer
 pub fn read(text: &[u8], out: &mut [u32]) -> Answer
     ensures { λ r. ⌜ TextRead (now (text .entry)) (now (out .entry)) r (now (out .exit)) ⌝ }
 {
-    let measured = pass(text, &mut out[..0]);
+    let room = out.len();
+    let none = 0;
+    let measured = pass(text, &mut out[..none]);
     match measured {
         Answer::Read(n) => {
-            if out.len() < n {
+            if room < n {
                 return Answer::Refused(Refusal::Room(n));
             }
             pass(text, out)

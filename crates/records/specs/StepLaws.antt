@@ -1,23 +1,22 @@
 -- Laws of Automaton.antt, case by case: what the code's branches and the theorems use.
-use mathlib.Core.Path.{_≡_, refl, sym, ap, _∙_}
+use mathlib.Core.Path.{_≡_, refl, sym, _∙_}
 use mathlib.Core.Logic.{_⊎_, inl, inr}
-use Prim.Native.Nat.{ℕ, suc, _+_, _*_, _-_, _≤_, _<_}
+use Prim.Native.Nat.{ℕ, suc, _≤_}
 use native.Mathlib.Numerals.{add-one}
 use native.Mathlib.Omega.{arith}
-use mathlib.Core.Bool.{Bool, true, false, _&&_, _||_, cond, true≢false, false≢true}
+use mathlib.Core.Bool.{true, _&&_, cond}
 use mathlib.Core.List.{List, [], _∷_, _++_}
-use lib.ListN.{length, set, getD, drop}
+use lib.ListN.{length, set}
 use lib.Dec.{leb, ltb, eqb}
-use lib.Seq.{sets, set-out, drop-cons, length-sets}
-use borrow.Author.Tests.{lt-ltb, le-ltb, le-leb, lt-leb, ltb-false}
+use lib.Seq.{sets, set-out}
+use borrow.Author.Tests.{ltb-false}
 use Rattle.meaning.specs.RowsLaws.{which, and-r, sets-out}
-use Rattle.field.specs.declared.Phase.{Phase}
 use Rattle.field.specs.declared.Decimal.{Decimal}
 use Rattle.field.specs.declared.Decimal.the-variants.{Is, IsNot}
 use Rattle.field.specs.Field.{top, decimalOf, returned, untouched}
 use Rattle.field.specs.FieldLaws.{return-none, fresh-none}
 use Rattle.records.specs.declared.Reader.{Reader}
-use Rattle.records.specs.Automaton.{up, moved, bad, ends, fits, passed, taken, fieldEnd, feedByte, shown, fieldEmits, emits, feedAll, emitted, FedByte}
+use Rattle.records.specs.Automaton.{up, bad, ends, fits, passed, taken, fieldEnd, feedByte, shown, fieldEmits, emits}
 
 -- ---- the stores of one byte and of those after it
 
@@ -85,18 +84,3 @@ fresh-emits-lf r e = elim (which (leb (r .limit) (r .record_no))) [
   | inl f ↦ rw f
   | inr f ↦ elim (which (fits (r .left) 10)) [ inl g ↦ rw (f, g, fresh-none (r .phase) e) | inr g ↦ rw (f, g) ]
 ]
-
--- ---- a turn of the loop
-
-pub record Turn (s t : Reader) (bytes out left : List ℕ) (i : ℕ) : Type 0 where
-  pub state : feedAll t (drop (i + 1) bytes) ≡ feedAll s (drop i bytes)
-  pub stored : sets left (t .at) (emitted t (drop (i + 1) bytes)) ≡ sets out (s .at) (emitted s (drop i bytes))
-  pub lengths : length left ≡ length out
-
-pub turn : (s t : Reader) (bytes out left : List ℕ) (i : ℕ) → i < length bytes → length out ≤ top → FedByte s (getD bytes i 0) out t left → Turn s t bytes out left i
-unfolding feedAll emitted
-turn s t bytes out left i h g f = record {
-  state = rw (add-one i, drop-cons bytes i 0 h, f .state);
-  stored = rw (add-one i, drop-cons bytes i 0 h, f .state, f .stored) (sets-next out s (getD bytes i 0) (emitted (feedByte s (getD bytes i 0)) (drop (suc i) bytes)) g);
-  lengths = ap length (f .stored) ∙ length-sets out (s .at) (emits s (getD bytes i 0));
-}

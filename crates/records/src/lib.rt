@@ -8,6 +8,7 @@ ghost use lib.Dec.{eqb};
 ghost use Rattle.records.specs.Automaton.{up, fresh, moved, bad};
 ghost use Rattle.field.specs.Field.{returned};
 ghost use Rattle.records.specs.Automaton.{ends, fits, passed, answerOf, FieldEnded, FedByte, Fed, Finished};
+ghost use Rattle.records.specs.Bare.{ready, Ended, Digits, AfterMinus, Bare, Went, WentOn};
 
 const COMMA: u8 = 44;
 
@@ -228,6 +229,193 @@ fn feed_byte(r: Reader, b: u8, out: &mut [u64]) -> Reader
     with(r, next, r.record_no, r.left, r.at)
 }
 
+// What a run of bytes that hold a number comes to: the place after them, and the number.
+struct Run {
+    end: usize,
+    value: u64,
+}
+
+// The digits that follow in a number that has begun. They also stop before one that might take it beyond the limit: there
+// byte after byte decides.
+fn digits(limit: u64, bytes: &[u8], from: usize, first: u64) -> Run
+    ensures { λ u. ⌜ Digits limit (now (bytes .entry)) from first u ⌝ }
+{
+    let tenth = limit / 10;
+    let mut n = first;
+    let mut i = from;
+    while i < bytes.len() {
+        let b = bytes[i];
+        if b < 48 {
+            return Run { end: i, value: n };
+        }
+        if 57 < b {
+            return Run { end: i, value: n };
+        }
+        if n < 1 {
+            return Run { end: i, value: n };
+        }
+        if tenth <= n {
+            return Run { end: i, value: n };
+        }
+        n = 10 * n + field::wide(b - 48);
+        i += 1;
+    }
+    Run { end: i, value: n }
+}
+
+// A bare number whose minus is at from.
+fn after_minus(below: u64, bytes: &[u8], from: usize) -> Run
+    ensures { λ u. ⌜ AfterMinus below (now (bytes .entry)) from u ⌝ }
+{
+    let none = Run {
+        end: from,
+        value: 0,
+    };
+    if bytes.len() <= from {
+        return none;
+    }
+    let next = from + 1;
+    if bytes.len() <= next {
+        return none;
+    }
+    let b = bytes[next];
+    if b < 49 {
+        return none;
+    }
+    if 57 < b {
+        return none;
+    }
+    let first = field::wide(b - 48);
+    if below < first {
+        return none;
+    }
+    let u = digits(below, bytes, next + 1, first);
+    Run {
+        end: u.end,
+        value: field::encode(true, u.value),
+    }
+}
+
+// The bare number that begins at from. A run that ends where it begins leaves the field to be read byte after byte.
+fn bare(r: Reader, bytes: &[u8], from: usize) -> Run
+    ensures { λ u. ⌜ Bare r (now (bytes .entry)) from u ⌝ }
+{
+    let none = Run {
+        end: from,
+        value: 0,
+    };
+    if bytes.len() <= from {
+        return none;
+    }
+    let b = bytes[from];
+    if b == b'-' {
+        return after_minus(r.below, bytes, from);
+    }
+    if b < 48 {
+        return none;
+    }
+    if 57 < b {
+        return none;
+    }
+    let first = field::wide(b - 48);
+    if r.most < first {
+        return none;
+    }
+    digits(r.most, bytes, from + 1, first)
+}
+
+// Whether a field begins here in a record that may come.
+fn is_ready(r: Reader) -> bool
+    ensures { λ t. ⌜ t ≡ ready r ⌝ }
+{
+    if r.limit <= r.record_no {
+        return false;
+    }
+    let phase = r.phase;
+    field::is_begin(phase)
+}
+
+// The place of the comma, or of the LF with or without a CR, that ends in its place a field whose number goes from i to
+// end; i where none does.
+fn field_end(left: usize, bytes: &[u8], i: usize, end: usize) -> usize
+    ensures { λ last. ⌜ Ended left (now (bytes .entry)) i end last ⌝ }
+{
+    if end <= i {
+        return i;
+    }
+    if bytes.len() <= end {
+        return i;
+    }
+    let b = bytes[end];
+    if b == COMMA {
+        if left < 1 {
+            return i;
+        }
+        return end;
+    }
+    if 0 < left {
+        return i;
+    }
+    if b == LF {
+        return end;
+    }
+    let next = end + 1;
+    if bytes.len() <= next {
+        return i;
+    }
+    if b == CR {
+        if bytes[next] == LF {
+            return next;
+        }
+    }
+    i
+}
+
+// A place among the bytes, and the reader there.
+struct Stand {
+    next: usize,
+    reader: Reader,
+}
+
+// Fields that are bare numbers, each taken whole, as far as one follows the other.
+fn feed_bare(r: Reader, bytes: &[u8], from: usize, out: &mut [u64]) -> Stand
+    ensures { λ t. ⌜ Went r (now (bytes .entry)) (now (out .entry)) from t (now (out .exit)) ⌝ }
+{
+    let mut s = r;
+    let mut i = from;
+    while i < bytes.len() {
+        if !is_ready(s) {
+            return Stand { next: i, reader: s };
+        }
+        let u = bare(s, bytes, i);
+        let last = field_end(s.left, bytes, i, u.end);
+        if last <= i {
+            return Stand { next: i, reader: s };
+        }
+        store(out, s.at, u.value);
+        s = pass(s, bytes[last], one_more(s.at));
+        i = last + 1;
+    }
+    Stand { next: i, reader: s }
+}
+
+// Byte after byte, to where the next field begins.
+fn feed_field(r: Reader, bytes: &[u8], from: usize, out: &mut [u64]) -> Stand
+    ensures { λ t. ⌜ WentOn r (now (bytes .entry)) (now (out .entry)) from t (now (out .exit)) ⌝ }
+{
+    let mut s = r;
+    let mut i = from;
+    while i < bytes.len() {
+        s = feed_byte(s, bytes[i], out);
+        i += 1;
+        let phase = s.phase;
+        if field::is_begin(phase) {
+            return Stand { next: i, reader: s };
+        }
+    }
+    Stand { next: i, reader: s }
+}
+
 // The next piece of the file. Numbers go to out in order as far as it has room; the rest of it is kept.
 pub fn feed(r: Reader, bytes: &[u8], out: &mut [u64]) -> Reader
     ensures { λ s. ⌜ Fed r (now (bytes .entry)) (now (out .entry)) s (now (out .exit)) ⌝ }
@@ -235,8 +423,10 @@ pub fn feed(r: Reader, bytes: &[u8], out: &mut [u64]) -> Reader
     let mut s = r;
     let mut i = 0;
     while i < bytes.len() {
-        s = feed_byte(s, bytes[i], out);
-        i += 1;
+        let t = feed_bare(s, bytes, i, out);
+        let u = feed_field(t.reader, bytes, t.next, out);
+        s = u.reader;
+        i = u.next;
     }
     s
 }

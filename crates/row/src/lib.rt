@@ -12,7 +12,7 @@ ghost use Rattle.controller.specs.Sizes.{rungsIn, noRungs};
 ghost use Rattle.row.specs.Row.{qWord, inItsTime, inTime, RowScan, RowRun};
 
 // One block, copied out of the row.
-pub fn at(blocks: &[Block], n: usize) -> Block
+fn at(blocks: &[Block], n: usize) -> Block
     requires { ⌜ n < length (now blocks) ⌝ }
     ensures { λ r. ⌜ r ≡ getD (now (blocks .entry)) n blank ⌝ }
 {
@@ -20,7 +20,7 @@ pub fn at(blocks: &[Block], n: usize) -> Block
 }
 
 // CAL: the block is updated where it lies, and its Q is answered.
-pub fn call(blocks: &mut [Block], n: usize, on: bool, pt: u32, step: u32) -> bool
+fn call(blocks: &mut [Block], n: usize, on: bool, pt: u32, step: u32) -> bool
     requires { ⌜ n < length (now blocks) ⌝ }
     ensures { λ r. ⌜ (now (blocks .exit) ≡ set (now (blocks .entry)) n (calledWith step on pt (getD (now (blocks .entry)) n blank)))
         × (r ≡ calledWith step on pt (getD (now (blocks .entry)) n blank) .q) ⌝ }
@@ -40,7 +40,7 @@ fn with_q(qs: u64, i: usize, b: Block) -> u64
 }
 
 // The blocks' Q as a word.
-pub fn q_word(blocks: &[Block]) -> u64
+fn q_word(blocks: &[Block]) -> u64
     ensures { λ r. ⌜ r ≡ qWord 0 (now (blocks .entry)) 0 ⌝ }
 {
     let mut qs: u64 = 0;

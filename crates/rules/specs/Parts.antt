@@ -5,11 +5,10 @@ use Prim.Native.Nat.{ℕ, _/_, _%_}
 use lib.Dec.{eqb, leb}
 use lib.ListN.{length}
 use lib.IntN.{ℤ}
-use Rattle.meaning.specs.Rows.{some}
-use Rattle.meaning.specs.Tables.{Tables, stateRow, moveRow, pairRow, mostStates, mostMoves, mostTimers, mostPairs, mostInputs, mostOutputs, mostStep, literalPlaces, stateCount, moveCount, timerCount, pairCount, cell, target, literal}
+use Rattle.meaning.specs.Tables.{Tables, stateRow, moveRow, pairRow, mostStates, mostMoves, mostTimers, mostPairs, mostInputs, mostOutputs, mostStep, stateCount, moveCount, timerCount, pairCount, cell, target}
 use Rattle.meaning.specs.Hierarchy.{leaf}
 use Rattle.meaning.specs.Literals.{between}
-use Rattle.meaning.specs.Check.{sizePasses, below, opposed}
+use Rattle.meaning.specs.Check.{sizePasses, below}
 
 -- SIZE: "slice no whole number of rows", by the lengths of the slices
 abbrev pub rowsWhole : ℕ → ℕ → ℕ → ℕ → Bool
@@ -36,10 +35,6 @@ size-parts c = simp and-assoc
 -- MOVE: "other mark, mark 1 on a leaf"
 abbrev pub markPasses : Tables → ℕ → Bool
 markPasses c i = below 1 (cell c i 2) || (below 2 (cell c i 2) && not (leaf c (target c i)))
-
--- OVERLAP: the literal y is opposed to one of move j
-abbrev pub opposedIn : Tables → ℤ → ℕ → Bool
-opposedIn c y j = some (λ b. opposed y (literal c j b)) 0 literalPlaces
 
 pub below-same : (m n : ℕ) (y z : ℤ) → m ≡ n → y ≡ z → below m y ≡ below n z
 below-same m n y z p q = rw (p, q)

@@ -1,18 +1,16 @@
 // The rules that the rows of a chart's tables are held to, one row a call, for any tables at all: document 01's refusals
-// 1 to 8 and 10.
-use meaning::Kind;
+// 1 to 7; and of 10, OVERLAP, what it asks of two sources.
 use tables::Chart;
 ghost use mathlib.Core.Path.{_≡_};
-ghost use mathlib.Core.Bool.{true, cond, _||_, not};
+ghost use mathlib.Core.Bool.{cond, _||_};
 ghost use Prim.Native.Nat.{_%_, _<_};
 ghost use lib.ListN.{length};
 ghost use lib.Dec.{eqb, ltb};
-ghost use Rattle.meaning.specs.Rows.{every};
-ghost use Rattle.meaning.specs.Tables.{Tables, timerCount, superState};
+ghost use Rattle.meaning.specs.Tables.{Tables, superState};
 ghost use Rattle.meaning.specs.Hierarchy.{atOrAbove};
-ghost use Rattle.meaning.specs.Check.{sizePasses, hierarchyPasses, initialPasses, presetPasses, pairAfter, pairPasses, below, movePasses, withinCounts, mayPrecede, placePasses, literalPasses, opposed, clash, overlaps, overlapPasses};
+ghost use Rattle.meaning.specs.Check.{sizePasses, hierarchyPasses, initialPasses, presetPasses, pairAfter, pairPasses, below, movePasses};
 ghost use Rattle.tables.specs.Given.{tablesOf};
-ghost use Rattle.rules.specs.Parts.{rowsWhole, countsFit, frameFits, markPasses, opposedIn};
+ghost use Rattle.rules.specs.Parts.{rowsWhole, countsFit, frameFits, markPasses};
 ghost use Rattle.rules.specs.Falling.{Falling};
 
 // ---- 1 SIZE
@@ -220,115 +218,7 @@ fn mark_passes(states: &[u16], moves: &[i16], i: usize) -> bool
     false
 }
 
-// ---- 8 LITERAL
-
-// "or beyond the counts"
-fn within_counts(inputs: u32, timers: usize, kind: Kind) -> bool
-    ensures { λ r. ⌜ ((c : Tables) → c .inputs ≡ inputs → timerCount c ≡ timers → r ≡ withinCounts c kind) ⌝ }
-{
-    match kind {
-        Kind::Unused => true,
-        Kind::Input(i) => (i as u32) <= inputs,
-        Kind::Timer(t) => (t as usize) <= timers,
-        Kind::Unknown => false,
-    }
-}
-
-// "0 is an unused place, and only 0 follows it. No input or timer stands twice in a move."
-fn may_precede(moves: &[i16], i: usize, j: u8, k: u8) -> bool
-    ensures { λ r. ⌜ ((c : Tables) → c .moves ≡ now (moves .entry) → r ≡ mayPrecede c i j k) ⌝ }
-{
-    let later = tables::size(tables::literal(moves, i, k));
-    if later == 0 {
-        return true;
-    }
-    let earlier = tables::size(tables::literal(moves, i, j));
-    if earlier == 0 {
-        return false;
-    }
-    earlier != later
-}
-
-fn all_precede(moves: &[i16], i: usize, k: u8) -> bool
-    ensures { λ r. ⌜ ((c : Tables) → c .moves ≡ now (moves .entry) → r ≡ every (λ j. mayPrecede c i j k) 0 k) ⌝ }
-{
-    let mut j = 0;
-    while j < k {
-        if !may_precede(moves, i, j, k) {
-            return false;
-        }
-        j += 1;
-    }
-    true
-}
-
-fn place_passes(inputs: u32, timers: usize, moves: &[i16], i: usize, k: u8) -> bool
-    ensures { λ r. ⌜ ((c : Tables) → c .inputs ≡ inputs → timerCount c ≡ timers → c .moves ≡ now (moves .entry) → r ≡ placePasses c i k) ⌝ }
-{
-    if within_counts(inputs, timers, tables::kind(tables::literal(moves, i, k))) {
-        return all_precede(moves, i, k);
-    }
-    false
-}
-
-pub fn literal_passes(inputs: u32, timers: usize, moves: &[i16], i: usize) -> bool
-    ensures { λ r. ⌜ ((c : Tables) → c .inputs ≡ inputs → timerCount c ≡ timers → c .moves ≡ now (moves .entry) → r ≡ literalPasses c i) ⌝ }
-{
-    let mut k = 0;
-    while k < 8 {
-        if !place_passes(inputs, timers, moves, i, k) {
-            return false;
-        }
-        k += 1;
-    }
-    true
-}
-
-// ---- 10 OVERLAP
-
-// One asks for on what the other asks for off.
-fn opposed(y: i16, z: i16) -> bool
-    ensures { λ r. ⌜ r ≡ opposed y z ⌝ }
-{
-    let n = tables::size(y);
-    if n == 0 {
-        return false;
-    }
-    if n != tables::size(z) {
-        return false;
-    }
-    if tables::wanted(y) {
-        return !tables::wanted(z);
-    }
-    tables::wanted(z)
-}
-
-fn opposed_in(moves: &[i16], y: i16, j: usize) -> bool
-    ensures { λ r. ⌜ ((c : Tables) → c .moves ≡ now (moves .entry) → r ≡ opposedIn c y j) ⌝ }
-{
-    let mut b = 0;
-    while b < 8 {
-        if opposed(y, tables::literal(moves, j, b)) {
-            return true;
-        }
-        b += 1;
-    }
-    false
-}
-
-// No setting of inputs and of timers makes both moves enabled.
-fn clash(moves: &[i16], i: usize, j: usize) -> bool
-    ensures { λ r. ⌜ ((c : Tables) → c .moves ≡ now (moves .entry) → r ≡ clash c i j) ⌝ }
-{
-    let mut a = 0;
-    while a < 8 {
-        if opposed_in(moves, tables::literal(moves, i, a), j) {
-            return true;
-        }
-        a += 1;
-    }
-    false
-}
+// ---- 10 OVERLAP: the sources
 
 // Whether a is at or above s. After the check of the hierarchy a super-state has the smaller number, so that the walk ends
 // once it is past a.
@@ -348,35 +238,11 @@ fn over(states: &[u16], a: usize, s: usize) -> bool
 }
 
 // "one source is at or above the other"
-fn near(states: &[u16], a: usize, b: usize) -> bool
+pub fn near(states: &[u16], a: usize, b: usize) -> bool
     ensures { λ r. ⌜ ((c : Tables) → c .states ≡ now (states .entry) → Falling c → r ≡ (atOrAbove c a b || atOrAbove c b a)) ⌝ }
 {
     if a <= b {
         return over(states, a, b);
     }
     over(states, b, a)
-}
-
-// The sources come first: they tell most pairs of moves apart, and cost less than the 64 pairs of literals.
-fn overlaps(states: &[u16], moves: &[i16], i: usize, j: usize) -> bool
-    ensures { λ r. ⌜ ((c : Tables) → c .states ≡ now (states .entry) → c .moves ≡ now (moves .entry) → Falling c → r ≡ overlaps c i j) ⌝ }
-{
-    if near(states, tables::source(moves, i), tables::source(moves, j)) {
-        return !clash(moves, i, j);
-    }
-    false
-}
-
-// "an earlier move overlaps it"
-pub fn overlap_passes(states: &[u16], moves: &[i16], i: usize) -> bool
-    ensures { λ r. ⌜ ((c : Tables) → c .states ≡ now (states .entry) → c .moves ≡ now (moves .entry) → Falling c → r ≡ overlapPasses c i) ⌝ }
-{
-    let mut j = 0;
-    while j < i {
-        if overlaps(states, moves, i, j) {
-            return false;
-        }
-        j += 1;
-    }
-    true
 }

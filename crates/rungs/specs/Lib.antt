@@ -2,3 +2,4 @@ pub mod Pairs
 pub mod PairLaws
 pub mod Rungs
 pub mod RungLaws
+pub mod Once

@@ -22,7 +22,7 @@ use Rattle.meaning.specs.declared.Operator.the-variants.{Ld, St}
 use Rattle.format.specs.Text.{line, operatorText}
 use Rattle.layout.specs.LaidLaws.{total-is}
 use Rattle.layout.specs.declared.Layout.{Layout}
-use Rattle.lines.specs.Put.{Put}
+use Rattle.lines.specs.Fit.{Fit}
 use Rattle.bits.specs.declared.Way.the-variants.{Store}
 use Rattle.bits.specs.declared.Spot.{Spot}
 use Rattle.bits.specs.Sent.{lines, Sent, bitAt, Drawn}
@@ -36,10 +36,10 @@ module _ {c : Tables} {ss : List ℕ} {y : Layout} (d : Drawn c ss y) where
   total : y .total ≡ flipFlops c
   total = total-is c y (d .laid) (d .rules .size .fewStates)
 
-  pub group-put : {l m : List ℕ} {q : Spot} {i : ℕ} (a s : ℕ) → Sent l (record { at = i; way = Store }) (groupBits c (bitAt (y .total)) a s) m q → Put l i (lines (groupBits c (bitStore c) a s)) m (q .at)
+  pub group-put : {l m : List ℕ} {q : Spot} {i : ℕ} (a s : ℕ) → Sent l (record { at = i; way = Store }) (groupBits c (bitAt (y .total)) a s) m q → Fit l i (lines (groupBits c (bitStore c) a s)) m (q .at)
   group-put a s x = rw (← group-stored c a s, ← total) (x .put)
 
-  pub path-put : {l m : List ℕ} {q : Spot} {i : ℕ} (k s : ℕ) → Sent l (record { at = i; way = Store }) (pathBits c (bitAt (y .total)) k s) m q → Put l i (lines (pathBits c (bitStore c) k s)) m (q .at)
+  pub path-put : {l m : List ℕ} {q : Spot} {i : ℕ} (k s : ℕ) → Sent l (record { at = i; way = Store }) (pathBits c (bitAt (y .total)) k s) m q → Fit l i (lines (pathBits c (bitStore c) k s)) m (q .at)
   path-put k s x = rw (← path-stored c k s, ← total) (x .put)
 
   -- a leaf's initial sub-state is 0, and no other's is

@@ -1,1 +1,2 @@
 pub mod ShownLaws
+pub mod Once

@@ -54,10 +54,3 @@ pub fn laid_leaf(states: &[u16], laid: Layout, flip_flops: &[u8]) -> usize
     }
     s
 }
-
-pub fn shown_leaf(states: &[u16], flip_flops: &[u8]) -> u16
-    ensures { λ r. ⌜ ((c : Tables) → c .states ≡ now (states .entry) → Rules c → r ≡ shownLeaf c (now («flip_flops» .entry))) ⌝ }
-{
-    let l = laid_leaf(states, layout::lay_out(states), flip_flops);
-    (l % 65536) as u16
-}

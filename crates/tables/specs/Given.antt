@@ -4,10 +4,7 @@ use mathlib.Core.List.{List}
 use Prim.Native.Nat.{ℕ, _/_}
 use lib.ListN.{length}
 use lib.IntN.{ℤ}
-use mathlib.Core.Bool.{Bool, _&&_}
-use lib.Dec.{eqb}
-use Rattle.meaning.specs.Tables.{Tables, stateCount, moveCount, pairNumber, pairState}
-use Rattle.meaning.specs.Hierarchy.{atOrAbove}
+use Rattle.meaning.specs.Tables.{Tables, stateCount, moveCount}
 use Rattle.tables.specs.declared.Chart.{Chart}
 
 -- the tables of a chart, as they are lent
@@ -30,10 +27,6 @@ pub record Lent (c : Tables) (ss : List ℕ) (ms : List ℤ) (ps ts os : List �
   pub presets : c .presets ≡ ps
   pub timerPairs : c .timerPairs ≡ ts
   pub outputPairs : c .outputPairs ≡ os
-
--- row i pairs n with a state at or above l
-abbrev pub rowPaired : Tables → List ℕ → ℕ → ℕ → ℕ → Bool
-rowPaired c ps n l i = eqb (pairNumber ps i) n && atOrAbove c (pairState ps i) l
 
 pub state-count : (c : Tables) (l : List ℕ) → c .states ≡ l → stateCount c ≡ length l / 2
 unfolding stateCount

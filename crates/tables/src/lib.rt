@@ -5,9 +5,8 @@ ghost use Prim.Native.Nat.{_+_, _*_};
 ghost use lib.ListN.{getD, replicate};
 ghost use lib.IntN.{natAbs};
 ghost use Rattle.meaning.specs.Tables.{Tables, superState, initial, pairNumber, pairState, cell, source, target, mark, literal};
-ghost use Rattle.meaning.specs.Hierarchy.{depth, atOrAbove, subState, subStates, leaf, paired};
+ghost use Rattle.meaning.specs.Hierarchy.{depth, subState, subStates, leaf};
 ghost use Rattle.meaning.specs.Literals.{kindOf, wanted};
-ghost use Rattle.tables.specs.Given.{rowPaired};
 
 // The frame of a chart: its scan step in ms, and how many inputs and outputs it has.
 pub struct Chart {
@@ -183,7 +182,7 @@ pub fn sub_state(states: &[u16], a: usize, s: usize) -> bool
 }
 
 // How many sub-states a has.
-pub fn sub_states(states: &[u16], a: usize) -> usize
+fn sub_states(states: &[u16], a: usize) -> usize
     ensures { λ r. ⌜ ((c : Tables) → c .states ≡ now (states .entry) → r ≡ subStates c a) ⌝ }
 {
     let mut n = 0;
@@ -218,49 +217,4 @@ pub fn depth(states: &[u16], s: usize) -> usize
         k += 1;
     }
     k
-}
-
-// Whether a is s, or its super-state, or that one's, and so on. The walk stops at the root, which is its own super-state,
-// because most states are not deep and the checks ask this for most pairs of states.
-pub fn at_or_above(states: &[u16], a: usize, s: usize) -> bool
-    ensures { λ r. ⌜ ((c : Tables) → c .states ≡ now (states .entry) → r ≡ atOrAbove c a s) ⌝ }
-{
-    let mut t = s;
-    let mut k = 0;
-    while k <= Chart::DEPTH {
-        if t == a {
-            return true;
-        }
-        let next = super_state(states, t);
-        if next == t {
-            return false;
-        }
-        t = next;
-        k += 1;
-    }
-    false
-}
-
-// Whether row i pairs n with a state on the path of the leaf l.
-fn row_paired(states: &[u16], pairs: &[u16], n: usize, l: usize, i: usize) -> bool
-    ensures { λ r. ⌜ ((c : Tables) → c .states ≡ now (states .entry) → r ≡ rowPaired c (now (pairs .entry)) n l i) ⌝ }
-{
-    if pair_number(pairs, i) == n {
-        return at_or_above(states, pair_state(pairs, i), l);
-    }
-    false
-}
-
-// "A timer runs when a paired state is on the path."; the same of outputs.
-pub fn paired(states: &[u16], pairs: &[u16], n: usize, l: usize) -> bool
-    ensures { λ r. ⌜ ((c : Tables) → c .states ≡ now (states .entry) → r ≡ paired c (now (pairs .entry)) n l) ⌝ }
-{
-    let mut i = 0;
-    while i < pairs.len() / 2 {
-        if row_paired(states, pairs, n, l, i) {
-            return true;
-        }
-        i += 1;
-    }
-    false
 }

@@ -1,3 +1,4 @@
 pub mod WrittenRan
 pub mod Going
 pub mod WholeLaws
+pub mod Once

@@ -1,3 +1,5 @@
 pub mod Answers
 pub mod ByWords
+pub mod Operands
 pub mod Told
+pub mod Once

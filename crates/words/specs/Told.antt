@@ -9,7 +9,7 @@ use Rattle.meaning.specs.RowsLaws.{no-length}
 use Rattle.meaning.specs.Calls.{overlaid}
 use Rattle.meaning.specs.declared.Refusal.the-variants.{Room}
 use Rattle.format.specs.Places.{room}
-use Rattle.lines.specs.Put.{Put, put-length}
+use Rattle.lines.specs.Fit.{Fit}
 use Rattle.phases.specs.Pass.{Holds}
 use Rattle.words.specs.declared.Written.{Written}
 use Rattle.words.specs.declared.Written.the-variants.{Wrote, Refused}
@@ -18,10 +18,10 @@ use Rattle.words.specs.Answers.{TextWritten, WordsWritten, SizesTold}
 use Rattle.words.specs.ByWords.{wordsText, wordsBytes, holds-text, holds-bytes}
 
 -- a writer over no bytes measures, and writes nothing
-measured : {t m : List ℕ} {r : ℕ} → Put [] 0 t m r → m ≡ []
-measured {m = m} p = no-length m (put-length p)
+measured : {t m : List ℕ} {r : ℕ} → Fit [] 0 t m r → m ≡ []
+measured {m = m} p = no-length m (p .long)
 
-pub text-short : {t m : List ℕ} {r : ℕ} (out : List ℕ) → Put [] 0 t m r → length out < r → TextWritten t out (Refused (Room r)) (m ++ out)
+pub text-short : {t m : List ℕ} {r : ℕ} (out : List ℕ) → Fit [] 0 t m r → length out < r → TextWritten t out (Refused (Room r)) (m ++ out)
 unfolding room
 text-short {t} {m} {r} out p h =
     let n = p .next in
@@ -29,7 +29,7 @@ text-short {t} {m} {r} out p h =
     TextWritten.short (omega arith) (ap (λ k. Refused (Room k)) e) (ap (λ l. l ++ out) (measured p))
 
 -- no slice has as many bytes as the largest place
-pub text-whole : {t m n : List ℕ} {r s : ℕ} (out : List ℕ) → length out < 2 ^ 63 → Put [] 0 t m r → r ≤ length out → Put (m ++ out) 0 t n s → TextWritten t out (Wrote s) n
+pub text-whole : {t m n : List ℕ} {r s : ℕ} (out : List ℕ) → length out < 2 ^ 63 → Fit [] 0 t m r → r ≤ length out → Fit (m ++ out) 0 t n s → TextWritten t out (Wrote s) n
 unfolding overlaid
 text-whole {t} {m} {n} {r} {s} out h p k q =
     let a = p .next in
@@ -38,7 +38,8 @@ text-whole {t} {m} {n} {r} {s} out h p k q =
     let e : s ≡ length t = omega arith in
     let z : 0 + length t ≡ length t = omega arith in
     let w = sets-eq t out 0 (omega arith) in
-    TextWritten.whole f (ap Wrote e) ((rw (measured p) at (q .list)) ∙ (rw z at w))
+    let g : length (m ++ out) ≡ length out = ap (λ l. length (l ++ out)) (measured p) in
+    TextWritten.whole f (ap Wrote e) ((rw (measured p) at (q .list (omega arith))) ∙ (rw z at w))
 
 pub words-written : {l out m : List ℕ} {r : Written} {d : ℕ} → Holds l d → TextWritten (wordsText d l) out r m → WordsWritten l out r m
 words-written h w = WordsWritten.accepted (h .program) (h .fitting) (h .listing) (rw (holds-text h) at w)

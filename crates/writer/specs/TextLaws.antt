@@ -17,7 +17,7 @@ use Rattle.meaning.specs.declared.Operator.{Operator}
 use Rattle.meaning.specs.declared.Operator.the-variants.{St}
 use Rattle.format.specs.Text.{bytes, line, declarations, text, operatorText}
 use Rattle.format.specs.Printed.{chartText}
-use Rattle.lines.specs.Put.{Put, put-put}
+use Rattle.lines.specs.Fit.{Fit, fit-fit}
 use Rattle.bits.specs.Sent.{lines}
 use Rattle.bits.specs.SentLaws.{put-lines}
 use Rattle.rungs.specs.Pairs.{Pairs}
@@ -97,17 +97,17 @@ text-parts c =
 
 -- the parts in a row, of n outputs and d timers
 pub text-put : (c : Tables) (n d : ℕ) → c .outputs ≡ n → timerCount c ≡ d → {l m₁ m₂ m₃ m₄ m₅ m : List ℕ} {p₁ p₂ p₃ p₄ p₅ r : ℕ}
-    → Put l 0 (line (bytes "PROGRAM CHART") ++ declarations d) m₁ p₁
-    → Put m₁ p₁ (lines (timersTo c (timerCount c))) m₂ p₂
-    → Put m₂ p₂ (lines (movesTo c (moveCount c))) m₃ p₃
-    → Put m₃ p₃ (lines (copiesTo c (flipFlops c))) m₄ p₄
-    → Put m₄ p₄ (lines (outputsTo c n)) m₅ p₅
-    → Put m₅ p₅ (line (bytes "END_PROGRAM")) m r
-    → Put l 0 (chartText c) m r
+    → Fit l 0 (line (bytes "PROGRAM CHART") ++ declarations d) m₁ p₁
+    → Fit m₁ p₁ (lines (timersTo c (timerCount c))) m₂ p₂
+    → Fit m₂ p₂ (lines (movesTo c (moveCount c))) m₃ p₃
+    → Fit m₃ p₃ (lines (copiesTo c (flipFlops c))) m₄ p₄
+    → Fit m₄ p₄ (lines (outputsTo c n)) m₅ p₅
+    → Fit m₅ p₅ (line (bytes "END_PROGRAM")) m r
+    → Fit l 0 (chartText c) m r
 text-put c n d e f {l} {m₁} {m₄ = m₄} {m₅} {p₁ = p₁} {p₄ = p₄} {p₅} h t v w o x =
-    let head = subst (λ k. Put l 0 (line (bytes "PROGRAM CHART") ++ declarations k) m₁ p₁) (sym f) h in
-    let last = subst (λ k. Put m₄ p₄ (lines (outputsTo c k)) m₅ p₅) (sym e) o in
+    let head = subst (λ k. Fit l 0 (line (bytes "PROGRAM CHART") ++ declarations k) m₁ p₁) (sym f) h in
+    let last = subst (λ k. Fit m₄ p₄ (lines (outputsTo c k)) m₅ p₅) (sym e) o in
     let cs = copiesTo c (flipFlops c) in
     let ms = movesTo c (moveCount c) in
     let os = outputsTo c (c .outputs) in
-    rw (text-parts c) (put-put head (put-put (put-lines (timersTo c (timerCount c)) (ms ++ (cs ++ os)) t (put-lines ms (cs ++ os) v (put-lines cs os w last))) x))
+    rw (text-parts c) (fit-fit head (fit-fit (put-lines (timersTo c (timerCount c)) (ms ++ (cs ++ os)) t (put-lines ms (cs ++ os) v (put-lines cs os w last))) x))

@@ -14,15 +14,15 @@ use Rattle.meaning.specs.Calls.{overlaid}
 use Rattle.meaning.specs.declared.Refusal.the-variants as R
 use Rattle.format.specs.Places.{room}
 use Rattle.format.specs.Printed.{chartText}
-use Rattle.lines.specs.Put.{Put, put-length}
+use Rattle.lines.specs.Fit.{Fit}
 use Rattle.writer.specs.declared.Written.{Written}
 use Rattle.writer.specs.declared.Written.the-variants.{Wrote, Refused}
 use Rattle.writer.specs.Wrote.{TextWritten}
 
 -- a slice is shorter than the largest number
-module _ (c : Tables) (l : List ℕ) (short : length l < 18446744073709551615) (m : List ℕ) (r : ℕ) (measured : Put [] 0 (chartText c) m r) where
+module _ (c : Tables) (l : List ℕ) (short : length l < 18446744073709551615) (m : List ℕ) (r : ℕ) (measured : Fit [] 0 (chartText c) m r) where
   kept : m ++ l ≡ l
-  kept = ap (λ x. x ++ l) (no-length m (put-length measured))
+  kept = ap (λ x. x ++ l) (no-length m (measured .long))
 
   pub refuses : length l < r → TextWritten c l (Refused (R.Room r)) (m ++ l)
   unfolding room
@@ -31,7 +31,7 @@ module _ (c : Tables) (l : List ℕ) (short : length l < 18446744073709551615) (
       let n : r ≡ min (length (chartText c)) 18446744073709551615 = omega (arith, measured .next) in
       record { answer = rw (e, n); out = rw e kept }
 
-  pub writes : r ≤ length l → {n : List ℕ} {k : ℕ} → Put (m ++ l) 0 (chartText c) n k → TextWritten c l (Wrote r) n
+  pub writes : r ≤ length l → {n : List ℕ} {k : ℕ} → Fit (m ++ l) 0 (chartText c) n k → TextWritten c l (Wrote r) n
   unfolding overlaid
   writes h p =
       let e = le-leb (length (chartText c)) (length l) (omega (arith, measured .next)) in
@@ -39,7 +39,7 @@ module _ (c : Tables) (l : List ℕ) (short : length l < 18446744073709551615) (
       let n : r ≡ length (chartText c) = omega (arith, measured .next) in
       record {
         answer = rw (e, n);
-        out = rw e (p .list ∙ ap (λ x. sets x 0 (chartText c)) kept ∙ sets-eq (chartText c) l 0 (omega (arith, measured .next)) ∙ rw z);
+        out = rw e (p .list (omega (arith, measured .next, ap length kept)) ∙ ap (λ x. sets x 0 (chartText c)) kept ∙ sets-eq (chartText c) l 0 (omega (arith, measured .next)) ∙ rw z);
       }
 
 -- no second answer

@@ -1,5 +1,4 @@
 // The text of a chart: document 01, "The written text".
-use layout::Layout;
 use meaning::Operand;
 use meaning::Operator;
 use meaning::Refusal;
@@ -13,8 +12,9 @@ ghost use Rattle.meaning.specs.Rules.{Rules};
 ghost use Rattle.meaning.specs.Programs.{rungOf, timerRungOf};
 ghost use Rattle.meaning.specs.Written.{timerRung, outputRungs};
 ghost use Rattle.format.specs.Printed.{chartText};
-ghost use Rattle.lines.specs.Put.{Put};
-ghost use Rattle.bits.specs.Sent.{lines, Drawn};
+ghost use Rattle.layout.specs.Laid.{LaidOut};
+ghost use Rattle.lines.specs.Fit.{Fit};
+ghost use Rattle.bits.specs.Sent.{lines, laid, Drawn};
 ghost use Rattle.rungs.specs.Pairs.{Reaches};
 ghost use Rattle.writer.specs.Wrote.{timersTo, movesTo, copiesTo, outputsTo, Ruled, TextWritten};
 
@@ -29,15 +29,18 @@ fn put_timer(
     out: &mut [u8],
     cursor: Cursor,
     states: &[u16],
-    layout: Layout,
+    first: &[u16; 256],
+    width: &[u8; 256],
+    code: &[u16; 256],
+    total: u32,
     pairs: &[u16],
     n: usize,
     time: u32,
 ) -> Cursor
-    ensures { λ r. ⌜ ((c : Tables) → Drawn c (now (states .entry)) layout → c .timerPairs ≡ now (pairs .entry) → Reaches (now (pairs .entry)) n (cursor .row) → n < 65536 → time ≡ preset c n
-        → Reaches (now (pairs .entry)) (n + 1) (r .row) × Put (now (out .entry)) (cursor .at) (lines (timerRungOf n (timerRung c n))) (now (out .exit)) (r .at)) ⌝ }
+    ensures { λ r. ⌜ ((c : Tables) → Drawn c (now (states .entry)) (laid (now (first .entry)) (now (width .entry)) (now (code .entry)) total) → c .timerPairs ≡ now (pairs .entry) → Reaches (now (pairs .entry)) n (cursor .row) → n < 65536 → time ≡ preset c n
+        → Reaches (now (pairs .entry)) (n + 1) (r .row) × Fit (now (out .entry)) (cursor .at) (lines (timerRungOf n (timerRung c n))) (now (out .exit)) (r .at)) ⌝ }
 {
-    let body = rungs::put_pairs(out, cursor, states, layout, pairs, n);
+    let body = rungs::put_pairs(out, cursor, states, first, width, code, total, pairs, n);
     let row = body.row;
     let at = rungs::put_call(out, body.at, (n % 65536) as u16, time);
     Cursor { at, row }
@@ -48,29 +51,52 @@ fn put_timers(
     out: &mut [u8],
     at: usize,
     states: &[u16],
-    layout: Layout,
+    first: &[u16; 256],
+    width: &[u8; 256],
+    code: &[u16; 256],
+    total: u32,
     presets: &[u32],
     pairs: &[u16],
 ) -> usize
-    ensures { λ r. ⌜ ((c : Tables) → Drawn c (now (states .entry)) layout → c .presets ≡ now (presets .entry) → c .timerPairs ≡ now (pairs .entry) → Put (now (out .entry)) at (lines (timersTo c (timerCount c))) (now (out .exit)) r) ⌝ }
+    ensures { λ r. ⌜ ((c : Tables) → Drawn c (now (states .entry)) (laid (now (first .entry)) (now (width .entry)) (now (code .entry)) total) → c .presets ≡ now (presets .entry) → c .timerPairs ≡ now (pairs .entry) → Fit (now (out .entry)) at (lines (timersTo c (timerCount c))) (now (out .exit)) r) ⌝ }
 {
     let mut cursor = Cursor { at, row: 0 };
     let mut n = 0;
     while n < presets.len() {
-        cursor = put_timer(out, cursor, states, layout, pairs, n + 1, presets[n]);
+        cursor = put_timer(
+            out,
+            cursor,
+            states,
+            first,
+            width,
+            code,
+            total,
+            pairs,
+            n + 1,
+            presets[n],
+        );
         n += 1;
     }
     cursor.at
 }
 
 // "Moves in order"
-fn put_moves(out: &mut [u8], at: usize, states: &[u16], layout: Layout, moves: &[i16]) -> usize
-    ensures { λ r. ⌜ ((c : Tables) → Drawn c (now (states .entry)) layout → c .moves ≡ now (moves .entry) → Put (now (out .entry)) at (lines (movesTo c (moveCount c))) (now (out .exit)) r) ⌝ }
+fn put_moves(
+    out: &mut [u8],
+    at: usize,
+    states: &[u16],
+    first: &[u16; 256],
+    width: &[u8; 256],
+    code: &[u16; 256],
+    total: u32,
+    moves: &[i16],
+) -> usize
+    ensures { λ r. ⌜ ((c : Tables) → Drawn c (now (states .entry)) (laid (now (first .entry)) (now (width .entry)) (now (code .entry)) total) → c .moves ≡ now (moves .entry) → Fit (now (out .entry)) at (lines (movesTo c (moveCount c))) (now (out .exit)) r) ⌝ }
 {
     let mut p = at;
     let mut i = 0;
     while i < moves.len() / 11 {
-        p = rungs::put_move(out, p, states, layout, moves, i);
+        p = rungs::put_move(out, p, states, first, width, code, total, moves, i);
         i += 1;
     }
     p
@@ -78,7 +104,7 @@ fn put_moves(out: &mut [u8], at: usize, states: &[u16], layout: Layout, moves: &
 
 // "Each flip-flop: LD working copy, ST flip-flop."
 fn put_copies(out: &mut [u8], at: usize, total: u32) -> usize
-    ensures { λ r. ⌜ ((c : Tables) → Rules c → total ≡ flipFlops c → Put (now (out .entry)) at (lines (copiesTo c (flipFlops c))) (now (out .exit)) r) ⌝ }
+    ensures { λ r. ⌜ ((c : Tables) → Rules c → total ≡ flipFlops c → Fit (now (out .entry)) at (lines (copiesTo c (flipFlops c))) (now (out .exit)) r) ⌝ }
 {
     let mut p = at;
     let mut b = 0;
@@ -94,14 +120,27 @@ fn put_output(
     out: &mut [u8],
     cursor: Cursor,
     states: &[u16],
-    layout: Layout,
+    first: &[u16; 256],
+    width: &[u8; 256],
+    code: &[u16; 256],
+    total: u32,
     pairs: &[u16],
     o: u32,
 ) -> Cursor
-    ensures { λ r. ⌜ ((c : Tables) → Drawn c (now (states .entry)) layout → c .outputPairs ≡ now (pairs .entry) → Reaches (now (pairs .entry)) o (cursor .row) → o < 65536
-        → Reaches (now (pairs .entry)) (o + 1) (r .row) × Put (now (out .entry)) (cursor .at) (lines (flatMap rungOf (outputRungs c o))) (now (out .exit)) (r .at)) ⌝ }
+    ensures { λ r. ⌜ ((c : Tables) → Drawn c (now (states .entry)) (laid (now (first .entry)) (now (width .entry)) (now (code .entry)) total) → c .outputPairs ≡ now (pairs .entry) → Reaches (now (pairs .entry)) o (cursor .row) → o < 65536
+        → Reaches (now (pairs .entry)) (o + 1) (r .row) × Fit (now (out .entry)) (cursor .at) (lines (flatMap rungOf (outputRungs c o))) (now (out .exit)) (r .at)) ⌝ }
 {
-    let body = rungs::put_pairs(out, cursor, states, layout, pairs, o as usize);
+    let body = rungs::put_pairs(
+        out,
+        cursor,
+        states,
+        first,
+        width,
+        code,
+        total,
+        pairs,
+        o as usize,
+    );
     let row = body.row;
     let at = lines::put_operator(out, body.at, Operator::St(Operand::Qx((o % 65536) as u16)));
     Cursor { at, row }
@@ -112,17 +151,20 @@ fn put_outputs(
     out: &mut [u8],
     at: usize,
     states: &[u16],
-    layout: Layout,
+    first: &[u16; 256],
+    width: &[u8; 256],
+    code: &[u16; 256],
+    total: u32,
     pairs: &[u16],
     outputs: u32,
 ) -> usize
-    ensures { λ r. ⌜ ((c : Tables) → Drawn c (now (states .entry)) layout → c .outputPairs ≡ now (pairs .entry) → c .outputs ≡ outputs → Put (now (out .entry)) at (lines (outputsTo c outputs)) (now (out .exit)) r) ⌝ }
+    ensures { λ r. ⌜ ((c : Tables) → Drawn c (now (states .entry)) (laid (now (first .entry)) (now (width .entry)) (now (code .entry)) total) → c .outputPairs ≡ now (pairs .entry) → c .outputs ≡ outputs → Fit (now (out .entry)) at (lines (outputsTo c outputs)) (now (out .exit)) r) ⌝ }
 {
     let mut cursor = Cursor { at, row: 0 };
     let mut o = 0;
     while o < outputs {
         o += 1;
-        cursor = put_output(out, cursor, states, layout, pairs, o);
+        cursor = put_output(out, cursor, states, first, width, code, total, pairs, o);
     }
     cursor.at
 }
@@ -132,20 +174,43 @@ fn put_text(
     out: &mut [u8],
     outputs: u32,
     states: &[u16],
+    first: &[u16; 256],
+    width: &[u8; 256],
+    code: &[u16; 256],
+    total: u32,
     moves: &[i16],
     presets: &[u32],
     timer_pairs: &[u16],
     output_pairs: &[u16],
 ) -> usize
     ensures { λ r. ⌜ ((c : Tables) → Ruled c outputs (now (states .entry)) (now (moves .entry)) (now (presets .entry)) (now («timer_pairs» .entry)) (now («output_pairs» .entry))
-        → Put (now (out .entry)) 0 (chartText c) (now (out .exit)) r) ⌝ }
+        → LaidOut c (laid (now (first .entry)) (now (width .entry)) (now (code .entry)) total) → Fit (now (out .entry)) 0 (chartText c) (now (out .exit)) r) ⌝ }
 {
-    let layout = layout::lay_out(states);
     let head = lines::put_head(out, 0, presets.len());
-    let timers = put_timers(out, head, states, layout, presets, timer_pairs);
-    let rungs = put_moves(out, timers, states, layout, moves);
-    let copies = put_copies(out, rungs, layout.total);
-    let end = put_outputs(out, copies, states, layout, output_pairs, outputs);
+    let timers = put_timers(
+        out,
+        head,
+        states,
+        first,
+        width,
+        code,
+        total,
+        presets,
+        timer_pairs,
+    );
+    let rungs = put_moves(out, timers, states, first, width, code, total, moves);
+    let copies = put_copies(out, rungs, total);
+    let end = put_outputs(
+        out,
+        copies,
+        states,
+        first,
+        width,
+        code,
+        total,
+        output_pairs,
+        outputs,
+    );
     lines::put_end(out, end)
 }
 
@@ -163,11 +228,20 @@ pub fn write_checked(
     ensures { λ r. ⌜ ((c : Tables) → Ruled c outputs (now (states .entry)) (now (moves .entry)) (now (presets .entry)) (now («timer_pairs» .entry)) (now («output_pairs» .entry))
         → TextWritten c (now (out .entry)) r (now (out .exit))) ⌝ }
 {
+    let layout = layout::lay_out(states);
+    let first = layout.first;
+    let width = layout.width;
+    let code = layout.code;
+    let total = layout.total;
     let none = 0;
     let n = put_text(
         &mut out[..none],
         outputs,
         states,
+        &first,
+        &width,
+        &code,
+        total,
         moves,
         presets,
         timer_pairs,
@@ -180,6 +254,10 @@ pub fn write_checked(
         out,
         outputs,
         states,
+        &first,
+        &width,
+        &code,
+        total,
         moves,
         presets,
         timer_pairs,

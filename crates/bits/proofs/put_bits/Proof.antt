@@ -23,20 +23,17 @@ loop-holds : tie.Need-loop-holds Inv-loop μ-loop
 unfolding bitsFrom
 loop-holds c = (omega arith, omega arith, sym (div-one _), λ h. sent-none _ _ (omega arith) (omega arith))
 
-cast-flip-flop : tie.Need-cast-flip-flop Inv-loop μ-loop
-cast-flip-flop c = omega arith
+cast-b : tie.Need-cast-b Inv-loop μ-loop
+cast-b c = omega arith
 
-add-flip-flop : tie.Need-add-flip-flop Inv-loop μ-loop
-add-flip-flop c = omega arith
+add-b : tie.Need-add-b Inv-loop μ-loop
+add-b c = omega arith
 
-add-flip-flop-2 : tie.Need-add-flip-flop-2 Inv-loop μ-loop
-add-flip-flop-2 c = omega arith
+add-b-2 : tie.Need-add-b-2 Inv-loop μ-loop
+add-b-2 c = omega arith
 
-flip-flop-requires : tie.Need-flip-flop-requires Inv-loop μ-loop
-flip-flop-requires c κs = tt
-
-put-test-requires : tie.Need-put-test-requires Inv-loop μ-loop
-put-test-requires c κs = tt
+put-bit-requires : tie.Need-put-bit-requires Inv-loop μ-loop
+put-bit-requires c κs = tt
 
 add-i : tie.Need-add-i Inv-loop μ-loop
 add-i c = omega arith
@@ -46,13 +43,13 @@ loop-less c = omega arith
 
 loop-again : tie.Need-loop-again Inv-loop μ-loop
 loop-again c =
-    let b = c .before .before .before .before .before .before .loop in
-    let a = c .before .before .before .before .before .before .before .before .args in (
+    let b = c .before .before .before .before .before .loop in
+    let a = c .before .before .before .before .before .before .before .args in (
       omega arith,
       omega arith,
       rw (add-one (b .i), pow-suc 2 (b .i)) (ap (λ n. n / 2) (b .inv .2) ∙ div-div-eq-div-mul _ _ _),
       λ h. rw (add-one (b .i), bits-snoc (bitAt (a .base)) (a .first) (b .i) (a .code))
-          (sent-sent (b .inv .3 h) (rw (c .before .before .before .before .flip-flop .ensures (omega arith), b .inv .2) at (c .before .before .put-test .ensures))),
+          (sent-sent (b .inv .3 h) (rw (b .inv .2) at (c .before .before .put-bit .ensures (omega arith)))),
     )
 
 same-length : tie.Need-same-length Inv-loop μ-loop
@@ -70,11 +67,10 @@ put-bits-spec =
     Inv-loop
     μ-loop
     loop-holds
-    cast-flip-flop
-    add-flip-flop
-    add-flip-flop-2
-    flip-flop-requires
-    put-test-requires
+    cast-b
+    add-b
+    add-b-2
+    put-bit-requires
     add-i
     loop-less
     loop-again

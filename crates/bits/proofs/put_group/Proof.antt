@@ -1,45 +1,60 @@
-use mathlib.Core.Path.{sym}
 use native.Mathlib.Omega.{arith}
 use Rattle.bits.specs.GroupLaws.{group-known, group-is}
 use borrow.Author.Needs.{needs}
 use Rattle.bits.proofs.put_group.Statement.{statement}
 use Rattle.bits.proofs.put_group.Tie as tie
+use Rattle.bits.proofs.put_group.Reads as reads
+use Rattle.bits.proofs.put_group.Lts as lts
+use Rattle.bits.proofs.base.Reads as base-reads
+use Rattle.bits.proofs.put_bits.Reads as put-bits-reads
 
+-- src/lib.rt:141:9
 returns : tie.Need-returns
 returns c c' o R h = absurd (omega (arith, group-known c' _ o R _ _ h))
 
+-- src/lib.rt:144:9
 returns-2 : tie.Need-returns-2
 returns-2 c c' o R h = absurd (omega (arith, group-known c' _ o R _ _ h))
 
-mul-first : tie.Need-mul-first
-mul-first c = search needs
-
-element-copy-out-first : tie.Need-element-copy-out-first
-element-copy-out-first c = search needs
-
-element-copy-out-width : tie.Need-element-copy-out-width
-element-copy-out-width c = search needs
-
-mul-code : tie.Need-mul-code
-mul-code c = search needs
-
-element-copy-out-code : tie.Need-element-copy-out-code
-element-copy-out-code c = search needs
-
+-- src/lib.rt:147:25
 base-requires : tie.Need-base-requires
 base-requires c κs = search needs
 
+-- src/lib.rt:147:43
+mul-put-bits : tie.Need-mul-put-bits
+mul-put-bits c = search needs
+
+-- src/lib.rt:147:43
+element-copy-out-put-bits : tie.Need-element-copy-out-put-bits
+element-copy-out-put-bits c = search needs
+
+-- src/lib.rt:147:53
+element-copy-out-put-bits-2 : tie.Need-element-copy-out-put-bits-2
+element-copy-out-put-bits-2 c = search needs
+
+-- src/lib.rt:147:63
+mul-put-bits-2 : tie.Need-mul-put-bits-2
+mul-put-bits-2 c = search needs
+
+-- src/lib.rt:147:63
+element-copy-out-put-bits-3 : tie.Need-element-copy-out-put-bits-3
+element-copy-out-put-bits-3 c = search needs
+
+-- src/lib.rt:147:5
 put-bits-requires : tie.Need-put-bits-requires
 put-bits-requires c κs = search needs
 
+-- src/lib.rt:127:1
 same-length : tie.Need-same-length
 same-length c = search needs
 
+-- src/lib.rt:127:1
 returns-3 : tie.Need-returns-3
 returns-3 c c' o R h =
     let a = c .before .before .before .before .before .before .before .before .before .before .before .args in
-    let g = group-is c' (a .t3) o R (a .a) (a .s) h (a .spot .way) in
-    rw (c .before .before .before .base .ensures, g .1) at (c .before .before .put-bits .ensures (rw (c .before .before .before .base .ensures) (g .0)))
+    let b = c .before .before .before .before .before .before .base .ensures in
+    let g = group-is c' _ o R (a .a) (a .s) h (a .spot .way) in
+    rw (b, g .1) at (c .before .before .put-bits .ensures (rw b (g .0)))
 
 pub put-group-spec : {M : Type 1} → statement M
 put-group-spec =
@@ -47,12 +62,12 @@ put-group-spec =
     (tie.spec
     returns
     returns-2
-    mul-first
-    element-copy-out-first
-    element-copy-out-width
-    mul-code
-    element-copy-out-code
     base-requires
+    mul-put-bits
+    element-copy-out-put-bits
+    element-copy-out-put-bits-2
+    mul-put-bits-2
+    element-copy-out-put-bits-3
     put-bits-requires
     same-length
     returns-3)

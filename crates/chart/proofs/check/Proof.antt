@@ -6,7 +6,7 @@ use Rattle.meaning.specs.RuleLaws.{hierarchy-tells}
 use Rattle.chart.specs.declared.Rule.the-variants as L
 use Rattle.tables.specs.Given.{tablesOf}
 use Rattle.meaning.specs.Check.{sizePasses, verdictOf}
-use Rattle.meaning.specs.Tables.{Tables, stateCount}
+use Rattle.meaning.specs.Tables.{Tables, stateCount, moveCount}
 use Rattle.meaning.specs.RowsLaws.{and-l, and-r}
 use borrow.Author.Tests.{not-true, not-false, leb-true, eqb-true}
 use mathlib.Core.List.{[], _∷_, _++_}
@@ -22,6 +22,10 @@ few : (c : Tables) → sizePasses c ≡ true → stateCount c ≤ 256
 unfolding sizePasses
 few c e = leb-true (stateCount c) 256 (search (and-l, and-r) depth 14)
 
+few-moves : (c : Tables) → sizePasses c ≡ true → moveCount c ≤ 512
+unfolding sizePasses
+few-moves c e = leb-true (moveCount c) 512 (search (and-l, and-r) depth 14)
+
 even : (c : Tables) → sizePasses c ≡ true → length (c .states) % 2 ≡ 0
 unfolding sizePasses
 even c e = eqb-true (length (c .states) % 2) 0 (search (and-l, and-r) depth 14)
@@ -36,6 +40,7 @@ sound c e f = record {
   hierarchy = hierarchy c f;
   falling = falling c (even c e) (hierarchy c f);
   few = few c e;
+  fewMoves = few-moves c e;
 }
 
 size-passes-requires : tie.Need-size-passes-requires

@@ -1,4 +1,4 @@
-use Rattle.chart.specs.Verdicts.{idleCheck, fails-at, all-pass}
+use Rattle.chart.specs.Verdicts.{idleCheck, fails-at, all-pass, Worded}
 use Rattle.idle.specs.Leaves.{Below, Sources}
 use Rattle.tables.specs.Given.{move-count}
 use Rattle.meaning.specs.Check.{idlePasses}
@@ -14,24 +14,24 @@ use Rattle.chart.proofs.judge_idle.Statement.{statement}
 use Rattle.chart.proofs.judge_idle.Tie as tie
 
 abbrev Inv-loop : tie.InvT-loop
-Inv-loop moves words i₀ i =
-    (i ≤ length moves / 11) × ((c : Tables) → c .moves ≡ moves → Below c words → Sources c → (m : ℕ) → m < i → idlePasses c m ≡ true)
+Inv-loop moves asks below i₀ i =
+    (i ≤ length moves / 11) × ((c : Tables) → c .moves ≡ moves → Below c below → Sources c → Worded c asks → (m : ℕ) → m < i → idlePasses c m ≡ true)
 
 abbrev μ-loop : tie.MeasureT-loop
-μ-loop moves words i₀ i = length moves / 11 - i
+μ-loop moves asks below i₀ i = length moves / 11 - i
 
 loop-holds : tie.Need-loop-holds Inv-loop μ-loop
-loop-holds c = (omega arith, λ c' e r o. below-none (λ m. idlePasses c' m ≡ true))
+loop-holds c = (omega arith, λ c' e r o w. below-none (λ m. idlePasses c' m ≡ true))
 
 idle-passes-requires : tie.Need-idle-passes-requires Inv-loop μ-loop
 idle-passes-requires c κs = tt
 
 returns : tie.Need-returns Inv-loop μ-loop
-returns c c' e r o =
+returns c c' e r o w =
     let n = move-count c' _ e in
     let b = c .before .before .before .loop in
     let p = c .before .idle-passes in
-    sym (fails-at (idleCheck c') (b .i) (omega arith) (b .inv .1 c' e r o) (sym (p .ensures c' e r (o (b .i) (omega arith))) ∙ not-true (p .result) (c .if1 .taken)))
+    sym (fails-at (idleCheck c') (b .i) (omega arith) (b .inv .1 c' e r o w) (sym (p .ensures c' e r (o (b .i) (omega arith)) (w .pass (b .i) (omega arith)) (omega (arith, w .room)) (w .words (b .i) (omega arith))) ∙ not-true (p .result) (c .if1 .taken)))
 
 add-i : tie.Need-add-i Inv-loop μ-loop
 add-i c = omega arith
@@ -43,12 +43,12 @@ loop-again : tie.Need-loop-again Inv-loop μ-loop
 loop-again c =
     let b = c .before .before .before .loop in
     let p = c .before .idle-passes in
-    (omega arith, λ c' e r o. let n = move-count c' _ e in below-more (λ m. idlePasses c' m ≡ true) (b .i) (b .inv .1 c' e r o) (sym (p .ensures c' e r (o (b .i) (omega arith))) ∙ not-false (p .result) (c .if1 .left)))
+    (omega arith, λ c' e r o w. let n = move-count c' _ e in below-more (λ m. idlePasses c' m ≡ true) (b .i) (b .inv .1 c' e r o w) (sym (p .ensures c' e r (o (b .i) (omega arith)) (w .pass (b .i) (omega arith)) (omega (arith, w .room)) (w .words (b .i) (omega arith))) ∙ not-false (p .result) (c .if1 .left)))
 
 returns-2 : tie.Need-returns-2 Inv-loop μ-loop
-returns-2 c c' e r o =
+returns-2 c c' e r o w =
     let n = move-count c' _ e in
-    sym (all-pass (idleCheck c') (λ m h. c .before .loop .inv .1 c' e r o m (omega arith)))
+    sym (all-pass (idleCheck c') (λ m h. c .before .loop .inv .1 c' e r o w m (omega arith)))
 
 pub judge-idle-spec : {M : Type 1} → statement M
 judge-idle-spec =

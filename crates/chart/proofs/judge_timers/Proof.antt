@@ -1,38 +1,50 @@
-use mathlib.Core.Path.{sym, ap, _∙_}
-use Rattle.meaning.specs.Hierarchy.{paired}
-use Rattle.idle.specs.Leaves.{tree}
+use native.Mathlib.Omega.{arith}
+use Prim.Native.Nat.{ℕ}
+use lib.ListN.{getD-replicate}
+use Rattle.meaning.specs.RowsLaws.{getD-equal}
+use Rattle.tables.specs.Given.{state-count}
 use borrow.Author.Needs.{needs}
 use Rattle.chart.proofs.judge_timers.Statement.{statement}
 use Rattle.chart.proofs.judge_timers.Tie as tie
 
-paired-words-requires : tie.Need-paired-words-requires
-paired-words-requires c κs = search needs
+slice-aggregate-judge-running : tie.Need-slice-aggregate-judge-running
+slice-aggregate-judge-running c = search needs
 
-slice-aggregate-run-below : tie.Need-slice-aggregate-run-below
-slice-aggregate-run-below c = search needs
+slice-aggregate-judge-running-2 : tie.Need-slice-aggregate-judge-running-2
+slice-aggregate-judge-running-2 c = search needs
 
-run-below-requires : tie.Need-run-below-requires
-run-below-requires c κs = search needs
-
-slice-aggregate-judge-idle : tie.Need-slice-aggregate-judge-idle
-slice-aggregate-judge-idle c = search needs
-
-judge-idle-requires : tie.Need-judge-idle-requires
-judge-idle-requires c κs = search needs
+judge-running-requires : tie.Need-judge-running-requires
+judge-running-requires c κs = search needs
 
 returns : tie.Need-returns
-returns c c' e f g s o =
-    let w = c .before .before .before .before .paired-words in
-    c .judge-idle .ensures c' f (c .before .before .run-below .ensures c'
-    (record { states = e; running = (λ n l p q h. w .ensures c' e (tree c' s) n l p q h ∙ ap (λ ps. paired c' ps n l) (sym g)); sound = s })) o
+returns c c' e f g s o w =
+    let n = state-count c' _ e in
+    c .before .before .judge-running .ensures c' e f g s o w (omega (arith, c .before .before .before .before .before .if1 .taken)) (omega (arith, c .before .before .before .before .before .if1 .taken)) (λ l. getD-equal 0 16 l)
+    (λ l h. getD-replicate {A = ℕ} 16 l 18446744073709551615 0 h)
+
+slice-aggregate-judge-running-3 : tie.Need-slice-aggregate-judge-running-3
+slice-aggregate-judge-running-3 c = search needs
+
+slice-aggregate-judge-running-4 : tie.Need-slice-aggregate-judge-running-4
+slice-aggregate-judge-running-4 c = search needs
+
+judge-running-requires-2 : tie.Need-judge-running-requires-2
+judge-running-requires-2 c κs = search needs
+
+returns-2 : tie.Need-returns-2
+returns-2 c c' e f g s o w =
+    c .before .before .judge-running2 .ensures c' e f g s o w (s .few) (s .few) (λ l. getD-equal 0 256 l)
+    (λ l h. getD-replicate {A = ℕ} 256 l 18446744073709551615 0 h)
 
 pub judge-timers-spec : {M : Type 1} → statement M
 judge-timers-spec =
     tie.close
     (tie.spec
-    paired-words-requires
-    slice-aggregate-run-below
-    run-below-requires
-    slice-aggregate-judge-idle
-    judge-idle-requires
-    returns)
+    slice-aggregate-judge-running
+    slice-aggregate-judge-running-2
+    judge-running-requires
+    returns
+    slice-aggregate-judge-running-3
+    slice-aggregate-judge-running-4
+    judge-running-requires-2
+    returns-2)

@@ -45,12 +45,6 @@ enum-told-6 c = search needs
 move-passes-requires : tie.Need-move-passes-requires
 move-passes-requires c κs = search needs
 
-enum-told-7 : tie.Need-enum-told-7
-enum-told-7 c = search needs
-
-literal-passes-requires : tie.Need-literal-passes-requires
-literal-passes-requires c κs = search needs
-
 returns : tie.Need-returns
 returns c =
     let a = c .before .before .before .before .before .before .before .args in
@@ -88,13 +82,6 @@ returns-6 c =
     let t = tablesOf (a .chart) (a .states .now) (a .moves .now) (a .presets .now) (a .timer-pairs .now) (a .output-pairs .now) in
     rw (c .before .enum-told6 .given .1) (c .move-passes .ensures t refl refl)
 
-returns-7 : tie.Need-returns-7
-unfolding timerCount
-returns-7 c =
-    let a = c .before .before .before .before .before .before .before .args in
-    let t = tablesOf (a .chart) (a .states .now) (a .moves .now) (a .presets .now) (a .timer-pairs .now) (a .output-pairs .now) in
-    rw (c .before .enum-told7 .given .1) (c .literal-passes .ensures t refl refl refl)
-
 pub passes-spec : {M : Type 1} → statement M
 passes-spec =
     tie.close
@@ -112,12 +99,9 @@ passes-spec =
     pair-passes-requires-2
     enum-told-6
     move-passes-requires
-    enum-told-7
-    literal-passes-requires
     returns
     returns-2
     returns-3
     returns-4
     returns-5
-    returns-6
-    returns-7)
+    returns-6)

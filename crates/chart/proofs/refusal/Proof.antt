@@ -20,9 +20,6 @@ enum-told-5 c = search needs
 enum-told-6 : tie.Need-enum-told-6
 enum-told-6 c = search needs
 
-enum-told-7 : tie.Need-enum-told-7
-enum-told-7 c = search needs
-
 returns : tie.Need-returns
 returns c c' = rw (c .enum-told .given .1)
 
@@ -41,9 +38,6 @@ returns-5 c c' = rw (c .enum-told5 .given .1)
 returns-6 : tie.Need-returns-6
 returns-6 c c' = rw (c .enum-told6 .given .1)
 
-returns-7 : tie.Need-returns-7
-returns-7 c c' = rw (c .enum-told7 .given .1)
-
 pub refusal-spec : {M : Type 1} → statement M
 refusal-spec =
     tie.close
@@ -54,11 +48,9 @@ refusal-spec =
     enum-told-4
     enum-told-5
     enum-told-6
-    enum-told-7
     returns
     returns-2
     returns-3
     returns-4
     returns-5
-    returns-6
-    returns-7)
+    returns-6)

@@ -24,9 +24,6 @@ enum-told-5 c = search needs
 enum-told-6 : tie.Need-enum-told-6
 enum-told-6 c = search needs
 
-enum-told-7 : tie.Need-enum-told-7
-enum-told-7 c = search needs
-
 returns : tie.Need-returns
 returns c c' p = rw (c .enum-told .given .1) (sym (state-count c' _ (p .states)))
 
@@ -48,9 +45,6 @@ returns-5 c c' p = rw (c .enum-told5 .given .1) (ap pairCount (sym (p .outputPai
 returns-6 : tie.Need-returns-6
 returns-6 c c' p = rw (c .enum-told6 .given .1) (sym (move-count c' _ (p .moves)))
 
-returns-7 : tie.Need-returns-7
-returns-7 c c' p = rw (c .enum-told7 .given .1) (sym (move-count c' _ (p .moves)))
-
 pub rows-spec : {M : Type 1} → statement M
 rows-spec =
     tie.close
@@ -61,11 +55,9 @@ rows-spec =
     enum-told-4
     enum-told-5
     enum-told-6
-    enum-told-7
     returns
     returns-2
     returns-3
     returns-4
     returns-5
-    returns-6
-    returns-7)
+    returns-6)

@@ -1,17 +1,15 @@
-use Rattle.controller.specs.Sizes.{bytesIn, bytesNamed, bytes-on, bytes-end}
-use Rattle.format.specs.Decode.{decoded}
-use lib.ListN.{length, getD, drop}
+use Rattle.controller.specs.Sizes.{bytesNamed, bytes-on, bytes-end}
+use lib.ListN.{length, drop}
 use native.Mathlib.Omega.{arith}
 use Prim.Native.Nat.{_-_, max}
 use mathlib.Core.Logic.{⊎-elim}
-use mathlib.Core.Path.{_≡_, ap, _∙_}
+use mathlib.Core.Path.{_≡_}
 use borrow.Author.Needs.{needs}
 use Rattle.controller.proofs.flip_flop_bytes.Statement.{statement}
 use Rattle.controller.proofs.flip_flop_bytes.Tie as tie
 use Rattle.controller.proofs.flip_flop_bytes.Reads as reads
 use Rattle.controller.proofs.flip_flop_bytes.Lts as lts
-use Rattle.controller.proofs.bytes_in.Reads as bytes-in-reads
-use Rattle.decode.proofs.decode.Reads as decode-reads
+use Rattle.controller.proofs.bytes_of.Reads as bytes-of-reads
 
 abbrev Inv-loop : tie.InvT-loop
 Inv-loop words most₀ i₀ most i = max most (bytesNamed (drop i words)) ≡ bytesNamed words
@@ -19,44 +17,39 @@ Inv-loop words most₀ i₀ most i = max most (bytesNamed (drop i words)) ≡ by
 abbrev μ-loop : tie.MeasureT-loop
 μ-loop words most₀ i₀ most i = length words - i
 
--- src/lib.rt:60:5
+-- src/lib.rt:89:5
 loop-holds : tie.Need-loop-holds Inv-loop μ-loop
 loop-holds c = omega arith
 
--- src/lib.rt:61:41
-mul-decode : tie.Need-mul-decode Inv-loop μ-loop
-mul-decode c = search needs
+-- src/lib.rt:90:26
+mul-bytes-of : tie.Need-mul-bytes-of Inv-loop μ-loop
+mul-bytes-of c = search needs
 
--- src/lib.rt:61:41
-shared-slice-read-decode : tie.Need-shared-slice-read-decode Inv-loop μ-loop
-shared-slice-read-decode c = omega arith
+-- src/lib.rt:90:26
+shared-slice-read-bytes-of : tie.Need-shared-slice-read-bytes-of Inv-loop μ-loop
+shared-slice-read-bytes-of c = omega arith
 
--- src/lib.rt:61:26
-decode-requires : tie.Need-decode-requires Inv-loop μ-loop
-decode-requires c κs = tt
+-- src/lib.rt:90:13
+bytes-of-requires : tie.Need-bytes-of-requires Inv-loop μ-loop
+bytes-of-requires c κs = tt
 
--- src/lib.rt:61:13
-bytes-in-requires : tie.Need-bytes-in-requires Inv-loop μ-loop
-bytes-in-requires c κs = tt
-
--- src/lib.rt:65:9
+-- src/lib.rt:94:9
 add-i : tie.Need-add-i Inv-loop μ-loop
 add-i c = omega arith
 
--- src/lib.rt:60:5
+-- src/lib.rt:89:5
 loop-less : tie.Need-loop-less Inv-loop μ-loop
 loop-less c = omega arith
 
--- src/lib.rt:60:5
+-- src/lib.rt:89:5
 loop-again : tie.Need-loop-again Inv-loop μ-loop
 loop-again c =
-    let l = c .before .before .before .before .before .loop in
-    let a = c .before .before .before .before .before .before .before .args in
-    let n : c .before .bytes-in .result ≡ bytesIn (decoded (getD (a .words .now) (l .i) 0)) = c .before .bytes-in .ensures ∙ ap bytesIn (c .before .before .decode .ensures) in
-    let o = bytes-on (a .words .now) (l .i) (omega arith) in
+    let l = c .before .before .before .before .loop in
+    let n = c .before .bytes-of .ensures in
+    let o = bytes-on (c .before .before .before .before .before .before .args .words .now) (l .i) (omega arith) in
     ⊎-elim (λ w. omega (arith, n, o, l .inv)) (λ w. omega (arith, n, o, l .inv)) (c .if1 .came)
 
--- src/lib.rt:55:1
+-- src/lib.rt:84:1
 returns : tie.Need-returns Inv-loop μ-loop
 returns c =
     let l = c .before .loop in
@@ -70,10 +63,9 @@ flip-flop-bytes-spec =
     Inv-loop
     μ-loop
     loop-holds
-    mul-decode
-    shared-slice-read-decode
-    decode-requires
-    bytes-in-requires
+    mul-bytes-of
+    shared-slice-read-bytes-of
+    bytes-of-requires
     add-i
     loop-less
     loop-again

@@ -1,3 +1,4 @@
+use native.Mathlib.Omega.{arith}
 use mathlib.Core.Path.{refl, sym, ap, _∙_}
 use lib.ListN.{getD}
 use lib.Dec.{eqb}
@@ -50,7 +51,7 @@ returns-2 c =
     let f = c .before .before .narrow in (
       f .ensures .0,
       λ c' r h n x p q g.
-          f .ensures .1 c' (r .states) n x g
+          f .ensures .1 c' (r .states) (r .sound .hierarchy 0 (omega arith) .root refl) n x g
           ∙ narrow-leaf c' n x (a .l) (inputOn (getD (a .words .now) x 0) n) (inputOn (w .result) n)
           (leaf-initial c' (a .l) (r .sound .initials (a .l) h) ∙ ap (λ y. eqb y 0) (sym (s .ensures c' (r .states))) ∙ eq-eqb (s .result) 0 (c .before .before .before .before .before .if1 .left))
           (ap (λ y. inputOn y n) (w .ensures) ∙ running-at c' (a .running .now) n (a .l) (r .running) p q h),

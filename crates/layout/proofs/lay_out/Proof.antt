@@ -1,14 +1,11 @@
 use Rattle.meaning.specs.Tables.{Tables}
-use Rattle.meaning.specs.Hierarchy.{subState}
 use Rattle.meaning.specs.Layout.{width, groupWidth, groupFirst}
-use Rattle.layout.specs.Laid.{laidStates, tally, row}
-use Rattle.layout.specs.LaidLaws.{statesOnly, tally-le, laid-most, tally-width, width-small, row-start, row-set}
-use Prim.Native.Nat.{ℕ, _≤_, _<_, _*_, _-_}
+use Rattle.layout.specs.Laid.{laidStates, row}
+use Rattle.layout.specs.LaidLaws.{few-subs, tally-width, width-small, row-start, row-set}
+use Prim.Native.Nat.{_≤_, _*_, _-_}
 use lib.ListN.{getD}
-use native.Mathlib.Nat.{le-trans}
 use native.Mathlib.Numerals.{add-one}
 use native.Mathlib.Omega.{arith}
-use mathlib.Core.List.{List}
 use mathlib.Core.Path.{_≡_, refl, ap, _∙_}
 use Rattle.layout.proofs.lay_out.Statement.{statement}
 use Rattle.layout.proofs.lay_out.Tie as tie
@@ -18,10 +15,6 @@ use Rattle.layout.proofs.codes_each.Reads as codes-each-reads
 use Rattle.layout.proofs.laid_states.Reads as laid-states-reads
 use Rattle.layout.proofs.sub_states_each.Reads as sub-states-each-reads
 use Rattle.layout.proofs.width.Reads as width-reads
-
--- no state of those laid out has more sub-states than there are states
-few : {l counts : List ℕ} → ((c : Tables) → c .states ≡ l → counts ≡ tally (subState c) (laidStates c)) → (a : ℕ) → a < 256 → getD counts a 0 ≤ 256
-few {l} f a h = let t = statesOnly l in rw (f t refl) (le-trans (tally-le (subState t) (laidStates t) a h) (laid-most t))
 
 abbrev Inv-loop : tie.InvT-loop
 Inv-loop states n counts code first₀ widths₀ total₀ a₀ first widths total a =
@@ -51,7 +44,7 @@ array-read-width : tie.Need-array-read-width Inv-loop μ-loop
 array-read-width c = omega arith
 
 cast-width : tie.Need-cast-width Inv-loop μ-loop
-cast-width c = omega (arith, few (c .before .before .before .sub-states-each .ensures) (c .before .loop .a) (omega arith))
+cast-width c = omega (arith, few-subs (c .before .before .before .sub-states-each .ensures) (c .before .loop .a) (omega arith))
 
 width-requires : tie.Need-width-requires Inv-loop μ-loop
 width-requires c κs = tt
@@ -69,7 +62,7 @@ cast-widths : tie.Need-cast-widths Inv-loop μ-loop
 cast-widths c =
     let k = c .before .before .before .before .sub-states-each in
     let a = c .before .before .loop .a in
-    omega (arith, c .width .ensures, width-small (getD (k .result) a 0) (few (k .ensures) a (omega arith)))
+    omega (arith, c .width .ensures, width-small (getD (k .result) a 0) (few-subs (k .ensures) a (omega arith)))
 
 array-write-widths : tie.Need-array-write-widths Inv-loop μ-loop
 array-write-widths c = omega arith
@@ -78,7 +71,7 @@ add-total : tie.Need-add-total Inv-loop μ-loop
 add-total c =
     let k = c .before .before .before .before .sub-states-each in
     let a = c .before .before .loop .a in
-    omega (arith, c .width .ensures, width-small (getD (k .result) a 0) (few (k .ensures) a (omega arith)))
+    omega (arith, c .width .ensures, width-small (getD (k .result) a 0) (few-subs (k .ensures) a (omega arith)))
 
 add-a : tie.Need-add-a Inv-loop μ-loop
 add-a c = omega arith
@@ -93,7 +86,7 @@ loop-again c =
     let b = c .before .before .loop in
     let a = b .a in (
       omega arith,
-      omega (arith, c .width .ensures, width-small (getD (k .result) a 0) (few (k .ensures) a (omega arith))),
+      omega (arith, c .width .ensures, width-small (getD (k .result) a 0) (few-subs (k .ensures) a (omega arith))),
       λ c' e.
           let i = b .inv .2 c' e in
           let n = c .before .before .before .before .before .laid-states .ensures .2 c' e in

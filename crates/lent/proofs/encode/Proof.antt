@@ -9,63 +9,42 @@ use Rattle.meaning.specs.Tables.{timerCount}
 use Rattle.meaning.specs.MachineLaws.{valid-sound}
 use Rattle.machine.specs.Held.{held}
 use Rattle.meaning.specs.Lent.{lentLength, lentOf}
-use Rattle.lent.specs.Slice.{left}
 use Rattle.lent.specs.SliceLaws.{codes-lent}
 use Rattle.lent.proofs.encode.Statement.{statement}
 use Rattle.lent.proofs.encode.Tie as tie
 
--- the array of timers is whole
-timers-long : (c : tie.Start) → length (c .args .m .timers) ≡ 32
-timers-long c = search needs
-
 returns : tie.Need-returns
 unfolding timerCount
-returns c c' e g R v h = absurd (omega (arith, R .size .fewTimers, ap length g, c .if1 .taken))
-
-lay-out-requires : tie.Need-lay-out-requires
-lay-out-requires c κs = search needs
-
-slice-aggregate-write-codes : tie.Need-slice-aggregate-write-codes
-slice-aggregate-write-codes c = search needs
-
-slice-aggregate-write-codes-2 : tie.Need-slice-aggregate-write-codes-2
-slice-aggregate-write-codes-2 c = search needs
+returns c c' e g R C lt v h = absurd (omega (arith, R .size .fewTimers, ap length g, c .if1 .taken))
 
 write-codes-requires : tie.Need-write-codes-requires
 write-codes-requires c κs = search needs
 
-slice-aggregate-write-timers : tie.Need-slice-aggregate-write-timers
-slice-aggregate-write-timers c = search needs
-
 write-timers-requires : tie.Need-write-timers-requires
-write-timers-requires c κs = (omega (arith, c .before .before .before .before .write-codes .ensures .0), omega (arith, c .before .before .before .before .before .before .before .before .before .before .before .before .if1 .left))
+write-timers-requires c κs = (omega (arith, c .before .before .before .write-codes .ensures .0), omega (arith, c .before .before .before .before .before .if1 .left))
 
 same-length : tie.Need-same-length
-same-length c = c .before .before .write-timers .kept .1 .1 .1 .0 ∙ c .before .before .before .before .before .before .before .write-codes .kept .1 .1 .1 .0
+same-length c = c .before .before .write-timers .kept .1 .1 .1 .0 ∙ c .before .before .before .before .before .before .write-codes .kept .1 .1 .1 .0
 
 returns-2 : tie.Need-returns-2
 unfolding lentOf lentLength timerCount
-returns-2 c c' e g R v h =
-    let a = c .before .before .before .before .before .before .before .before .before .before .before .before .before .before .before .before .before .before .before .args in
+returns-2 c c' e g R C lt v h =
+    let a = c .before .before .before .before .before .before .before .before .before .before .before .before .before .before .before .args in
     let n : length (c' .presets) ≡ length (a .presets .now) = ap length g in
-    let S = valid-sound c' R (held c' (a .m .memory) (a .m .timers)) v in
-    let w = c .before .before .before .before .before .before .before .write-codes .ensures .1 c' e R (omega (arith, h)) in
-    let mid = c .before .before .before .before .before .before .before .write-codes .kept .1 .1 .1 .0 in
+    let S = valid-sound c' R (held c' (a .memory .now) (a .timers .now)) v in
+    let w = c .before .before .before .before .before .before .write-codes .ensures .1 c' e R (omega (arith, h)) in
+    let mid = c .before .before .before .before .before .before .write-codes .kept .1 .1 .1 .0 in
     let at-is = w .0 in
-    let t = c .before .before .write-timers .ensures (omega (arith, timers-long (c .before .before .before .before .before .before .before .before .before .before .before .before .before .before .before .before .before .before .before), c .before .before .before .before .before .before .before .before .before .before .before .before .before .before .before .if1 .left)) (omega (arith, h, n, mid, at-is)) in
-    sym (take-all (c .before .before .before .before .before .before .before .write-codes .result + length (a .presets .now)) (c .before .before .write-timers .last .1 .1 .1 .0) (omega (arith, h, n, mid, at-is, c .before .before .write-timers .kept .1 .1 .1 .0)))
-    ∙ t ∙ ap₂ _++_ (w .1 ∙ codes-lent c' R (a .m .memory) (c .before .before .before .before .before .before .before .before .before .before .before .before .lay-out .result) (c .before .before .before .before .before .before .before .before .before .before .before .before .lay-out .ensures c' e) S) (ap (λ k. take k (a .m .timers)) (sym n))
+    let t = c .before .before .write-timers .ensures (omega (arith, lt, c .before .before .before .before .before .before .before .before .if1 .left)) (omega (arith, h, n, mid, at-is)) in
+    sym (take-all (c .before .before .before .before .before .before .write-codes .result + length (a .presets .now)) (c .before .before .write-timers .last .1 .1 .1 .0) (omega (arith, h, n, mid, at-is, c .before .before .write-timers .kept .1 .1 .1 .0)))
+    ∙ t ∙ ap₂ _++_ (w .1 ∙ codes-lent c' R (a .memory .now) (a .codes .now) C S) (ap (λ k. take k (a .timers .now)) (sym n))
 
 pub encode-spec : {M : Type 1} → statement M
 encode-spec =
     tie.close
     (tie.spec
     returns
-    lay-out-requires
-    slice-aggregate-write-codes
-    slice-aggregate-write-codes-2
     write-codes-requires
-    slice-aggregate-write-timers
     write-timers-requires
     same-length
     returns-2)

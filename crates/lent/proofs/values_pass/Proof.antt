@@ -1,15 +1,14 @@
 use native.Mathlib.Omega.{arith}
 use mathlib.Core.Path.{_≡_, sym, _∙_}
 use mathlib.Core.Bool.{Bool, true}
-use Prim.Native.Nat.{ℕ, _≤_, _<_, _-_, _+_}
+use Prim.Native.Nat.{ℕ, suc, _≤_, _<_, _-_}
 use mathlib.Core.List.{List}
 use lib.ListN.{length, getD}
 use borrow.Author.Tests.{not-true, not-false}
-use native.Mathlib.Numerals.{add-one}
 use borrow.Author.Count.{below-more}
 use Rattle.meaning.specs.RowsLaws.{every-intro, every-no}
 use Rattle.meaning.specs.Machine.{step}
-use Rattle.paths.specs.Flags.{on}
+use Rattle.meaning.specs.Literals.{inputOn}
 use Rattle.lent.specs.Slice.{valuePasses, rowPasses, answer, left}
 use Rattle.lent.proofs.values_pass.Statement.{statement}
 use Rattle.lent.proofs.values_pass.Tie as tie
@@ -21,8 +20,8 @@ abbrev μ-loop : tie.MeasureT-loop
 μ-loop step presets running timers i₀ i = length presets - i
 
 -- what the row's answer is
-row-is : (d : ℕ) (ps fs ts : List ℕ) (i p v : ℕ) (f : Bool) → p ≡ getD ps i 0 → v ≡ getD ts i 0 → f ≡ on fs (i + 1) → valuePasses d p f v ≡ rowPasses d ps fs ts i
-row-is d ps fs ts i p v f x y z = rw (x, y, z, add-one)
+row-is : (d : ℕ) (ps : List ℕ) (w : ℕ) (ts : List ℕ) (i p v : ℕ) (f : Bool) → p ≡ getD ps i 0 → v ≡ getD ts i 0 → f ≡ inputOn w (suc i) → valuePasses d p f v ≡ rowPasses d ps w ts i
+row-is d ps w ts i p v f x y z = rw (x, y, z)
 
 returns : tie.Need-returns Inv-loop μ-loop
 returns c h k = absurd (omega arith)
@@ -33,11 +32,8 @@ loop-holds c = (omega arith, λ h k z. absurd (omega arith))
 value-requires : tie.Need-value-requires Inv-loop μ-loop
 value-requires c κs = tt
 
-add-flag : tie.Need-add-flag Inv-loop μ-loop
-add-flag c = omega arith
-
-flag-requires : tie.Need-flag-requires Inv-loop μ-loop
-flag-requires c κs = tt
+bit-at-requires : tie.Need-bit-at-requires Inv-loop μ-loop
+bit-at-requires c κs = omega arith
 
 value-requires-2 : tie.Need-value-requires-2 Inv-loop μ-loop
 value-requires-2 c κs = tt
@@ -47,10 +43,10 @@ value-passes-requires c κs = tt
 
 returns-2 : tie.Need-returns-2 Inv-loop μ-loop
 returns-2 c h k =
-    let a = c .before .before .before .before .before .before .before .before .before .before .before .args in
+    let a = c .before .before .before .before .before .before .before .before .before .before .args in
     let b = c .before .before .before .before .before .before .loop in
-    sym (every-no (rowPasses (a .step) (a .presets .now) (a .running .now) (a .timers .now)) (length (a .presets .now)) (b .i) (omega arith)
-    (sym (row-is (a .step) (a .presets .now) (a .running .now) (a .timers .now) (b .i) _ _ _ (c .before .before .before .before .value .ensures) (c .before .before .value2 .ensures) (c .before .before .before .flag .ensures)) ∙ sym (c .before .value-passes .ensures h) ∙ not-true _ (c .if2 .taken)))
+    sym (every-no (rowPasses (a .step) (a .presets .now) (a .running) (a .timers .now)) (length (a .presets .now)) (b .i) (omega arith)
+    (sym (row-is (a .step) (a .presets .now) (a .running) (a .timers .now) (b .i) _ _ _ (c .before .before .before .before .value .ensures) (c .before .before .value2 .ensures) (c .before .before .before .bit-at .ensures)) ∙ sym (c .before .value-passes .ensures h) ∙ not-true _ (c .if2 .taken)))
 
 add-i : tie.Need-add-i Inv-loop μ-loop
 add-i c = omega arith
@@ -60,17 +56,17 @@ loop-less c = omega arith
 
 loop-again : tie.Need-loop-again Inv-loop μ-loop
 loop-again c =
-    let a = c .before .before .before .before .before .before .before .before .before .before .before .args in
+    let a = c .before .before .before .before .before .before .before .before .before .before .args in
     let b = c .before .before .before .before .before .before .loop in (
       omega arith,
-      λ h. below-more (λ k. rowPasses (a .step) (a .presets .now) (a .running .now) (a .timers .now) k ≡ true) (b .i) (b .inv .1 h)
-          (sym (row-is (a .step) (a .presets .now) (a .running .now) (a .timers .now) (b .i) _ _ _ (c .before .before .before .before .value .ensures) (c .before .before .value2 .ensures) (c .before .before .before .flag .ensures)) ∙ sym (c .before .value-passes .ensures h) ∙ not-false _ (c .if2 .left)),
+      λ h. below-more (λ k. rowPasses (a .step) (a .presets .now) (a .running) (a .timers .now) k ≡ true) (b .i) (b .inv .1 h)
+          (sym (row-is (a .step) (a .presets .now) (a .running) (a .timers .now) (b .i) _ _ _ (c .before .before .before .before .value .ensures) (c .before .before .value2 .ensures) (c .before .before .before .bit-at .ensures)) ∙ sym (c .before .value-passes .ensures h) ∙ not-false _ (c .if2 .left)),
     )
 
 returns-3 : tie.Need-returns-3 Inv-loop μ-loop
 returns-3 c h k =
-    let a = c .before .before .before .before .before .before .args in
-    sym (every-intro (rowPasses (a .step) (a .presets .now) (a .running .now) (a .timers .now)) (length (a .presets .now)) (λ j z. c .before .loop .inv .1 h j (omega arith)))
+    let a = c .before .before .before .before .before .args in
+    sym (every-intro (rowPasses (a .step) (a .presets .now) (a .running) (a .timers .now)) (length (a .presets .now)) (λ j z. c .before .loop .inv .1 h j (omega arith)))
 
 pub values-pass-spec : {M : Type 1} → statement M
 values-pass-spec =
@@ -81,8 +77,7 @@ values-pass-spec =
     returns
     loop-holds
     value-requires
-    add-flag
-    flag-requires
+    bit-at-requires
     value-requires-2
     value-passes-requires
     returns-2

@@ -1,4 +1,5 @@
-use Rattle.line.specs.KindLaws.{load-or, load-close, load-false, load-true, load-test, load-time, differs, beyond-loads}
+use native.Mathlib.Omega.{arith}
+use Rattle.line.specs.KindLaws.{test-ldn, load-test, load-false, load-true, load-time, differs, no-ld, no-ldn, short-ld}
 use borrow.Author.Needs.{needs}
 use Rattle.line.proofs.load_of.Statement.{statement}
 use Rattle.line.proofs.load_of.Tie as tie
@@ -7,132 +8,135 @@ use Rattle.line.proofs.load_of.Lts as lts
 use Rattle.line.proofs.numbered.Reads as numbered-reads
 use Rattle.line.proofs.same.Reads as same-reads
 use Rattle.line.proofs.test_after.Reads as test-after-reads
-use Rattle.line.proofs.test_of.Reads as test-of-reads
 
--- src/lib.rt:179:16
-slice-aggregate-same : tie.Need-slice-aggregate-same
-slice-aggregate-same c = search needs
-
--- src/lib.rt:179:8
-same-requires : tie.Need-same-requires
-same-requires c κs = search needs
-
--- src/lib.rt:180:9
+-- src/lib.rt:194:9
 returns : tie.Need-returns
-returns c = load-or (c .before .same .ensures .0 (c .if1 .taken))
+returns c = short-ld _ (c .before .before .pre) (omega arith)
 
--- src/lib.rt:182:16
-slice-aggregate-same-2 : tie.Need-slice-aggregate-same-2
-slice-aggregate-same-2 c = search needs
+-- src/lib.rt:196:8
+shared-slice-read-if2 : tie.Need-shared-slice-read-if2
+shared-slice-read-if2 c = search needs
 
--- src/lib.rt:182:8
-same-requires-2 : tie.Need-same-requires-2
-same-requires-2 c κs = search needs
-
--- src/lib.rt:183:9
-returns-2 : tie.Need-returns-2
-returns-2 c = load-close (c .before .same2 .ensures .0 (c .if2 .taken))
-
--- src/lib.rt:185:16
-slice-aggregate-same-3 : tie.Need-slice-aggregate-same-3
-slice-aggregate-same-3 c = search needs
-
--- src/lib.rt:185:8
-same-requires-3 : tie.Need-same-requires-3
-same-requires-3 c κs = search needs
-
--- src/lib.rt:186:9
-returns-3 : tie.Need-returns-3
-returns-3 c = load-false (c .before .same3 .ensures .0 (c .if3 .taken))
-
--- src/lib.rt:188:16
-slice-aggregate-same-4 : tie.Need-slice-aggregate-same-4
-slice-aggregate-same-4 c = search needs
-
--- src/lib.rt:188:8
-same-requires-4 : tie.Need-same-requires-4
-same-requires-4 c κs = search needs
-
--- src/lib.rt:189:9
-returns-4 : tie.Need-returns-4
-returns-4 c = load-true (c .before .same4 .ensures .0 (c .if4 .taken))
-
--- src/lib.rt:191:41
+-- src/lib.rt:197:45
 slice-aggregate-test-after : tie.Need-slice-aggregate-test-after
 slice-aggregate-test-after c = search needs
 
--- src/lib.rt:191:27
+-- src/lib.rt:197:31
 test-after-requires : tie.Need-test-after-requires
 test-after-requires c κs = search needs
 
--- src/lib.rt:191:22
+-- src/lib.rt:197:26
 enum-known-o : tie.Need-enum-known-o
 enum-known-o c = search needs
 
--- src/lib.rt:192:9
-returns-5 : tie.Need-returns-5
-returns-5 c = load-test (rw (c .before .o .given .1) at (c .before .before .before .test-after .ensures))
+-- src/lib.rt:198:13
+returns-2 : tie.Need-returns-2
+returns-2 c = test-ldn (rw (c .before .o .given .1) at (c .before .before .before .test-after .ensures))
 
 enum-told : tie.Need-enum-told
 enum-told c = search needs
 
--- src/lib.rt:194:40
-slice-aggregate-numbered : tie.Need-slice-aggregate-numbered
-slice-aggregate-numbered c = search needs
+-- src/lib.rt:200:9
+returns-3 : tie.Need-returns-3
+returns-3 c = no-ldn (c .before .before .before .before .before .before .before .before .pre) (c .before .before .before .before .if2 .taken) (rw (c .enum-told .given .1) at (c .before .before .test-after .ensures))
 
--- src/lib.rt:194:50
-slice-aggregate-numbered-2 : tie.Need-slice-aggregate-numbered-2
-slice-aggregate-numbered-2 c = search needs
+-- src/lib.rt:202:41
+slice-aggregate-test-after-2 : tie.Need-slice-aggregate-test-after-2
+slice-aggregate-test-after-2 c = search needs
 
--- src/lib.rt:194:28
-numbered-requires : tie.Need-numbered-requires
-numbered-requires c κs = search needs
+-- src/lib.rt:202:27
+test-after-requires-2 : tie.Need-test-after-requires-2
+test-after-requires-2 c κs = search needs
 
--- src/lib.rt:194:23
-enum-known-n : tie.Need-enum-known-n
-enum-known-n c = search needs
+-- src/lib.rt:202:22
+enum-known-o-2 : tie.Need-enum-known-o-2
+enum-known-o-2 c = search needs
 
--- src/lib.rt:195:9
-returns-6 : tie.Need-returns-6
-returns-6 c = load-time (rw (c .before .n .given .1) at (c .before .before .before .numbered .ensures))
+-- src/lib.rt:203:9
+returns-4 : tie.Need-returns-4
+returns-4 c = load-test (rw (c .before .o2 .given .1) at (c .before .before .before .test-after2 .ensures))
 
 enum-told-2 : tie.Need-enum-told-2
 enum-told-2 c = search needs
 
--- src/lib.rt:197:5
-test-of-requires : tie.Need-test-of-requires
-test-of-requires c κs = beyond-loads (c .before .before .before .before .before .before .before .before .before .before .before .before .before .before .before .before .before .before .before .before .before .before .pre) (differs (c .before .before .before .before .before .before .before .before .before .before .before .before .before .before .before .before .before .before .before .same .ensures) (c .before .before .before .before .before .before .before .before .before .before .before .before .before .before .before .before .before .before .if1 .left)) (differs (c .before .before .before .before .before .before .before .before .before .before .before .before .before .before .before .before .same2 .ensures) (c .before .before .before .before .before .before .before .before .before .before .before .before .before .before .before .if2 .left)) (differs (c .before .before .before .before .before .before .before .before .before .before .before .before .before .same3 .ensures) (c .before .before .before .before .before .before .before .before .before .before .before .before .if3 .left)) (differs (c .before .before .before .before .before .before .before .before .before .before .same4 .ensures) (c .before .before .before .before .before .before .before .before .before .if4 .left)) (rw (c .before .before .before .before .before .enum-told .given .1) at (c .before .before .before .before .before .before .before .test-after .ensures)) (rw (c .enum-told2 .given .1) at (c .before .before .numbered .ensures))
+-- src/lib.rt:205:16
+slice-aggregate-same : tie.Need-slice-aggregate-same
+slice-aggregate-same c = search needs
 
--- src/lib.rt:175:1
+-- src/lib.rt:205:8
+same-requires : tie.Need-same-requires
+same-requires c κs = search needs
+
+-- src/lib.rt:206:9
+returns-5 : tie.Need-returns-5
+returns-5 c = load-false (c .before .same .ensures .0 (c .if3 .taken))
+
+-- src/lib.rt:208:16
+slice-aggregate-same-2 : tie.Need-slice-aggregate-same-2
+slice-aggregate-same-2 c = search needs
+
+-- src/lib.rt:208:8
+same-requires-2 : tie.Need-same-requires-2
+same-requires-2 c κs = search needs
+
+-- src/lib.rt:209:9
+returns-6 : tie.Need-returns-6
+returns-6 c = load-true (c .before .same2 .ensures .0 (c .if4 .taken))
+
+-- src/lib.rt:211:40
+slice-aggregate-numbered : tie.Need-slice-aggregate-numbered
+slice-aggregate-numbered c = search needs
+
+-- src/lib.rt:211:50
+slice-aggregate-numbered-2 : tie.Need-slice-aggregate-numbered-2
+slice-aggregate-numbered-2 c = search needs
+
+-- src/lib.rt:211:28
+numbered-requires : tie.Need-numbered-requires
+numbered-requires c κs = search needs
+
+-- src/lib.rt:211:23
+enum-known-n : tie.Need-enum-known-n
+enum-known-n c = search needs
+
+-- src/lib.rt:212:9
 returns-7 : tie.Need-returns-7
-returns-7 c = search needs
+returns-7 c = load-time (rw (c .before .n .given .1) at (c .before .before .before .numbered .ensures))
+
+enum-told-3 : tie.Need-enum-told-3
+enum-told-3 c = search needs
+
+-- src/lib.rt:189:1
+returns-8 : tie.Need-returns-8
+returns-8 c = no-ld (c .before .before .before .before .before .before .before .before .before .before .before .before .before .before .before .before .before .before .before .pre) (c .before .before .before .before .before .before .before .before .before .before .before .before .before .before .before .if2 .left) (rw (c .before .before .before .before .before .before .before .before .before .before .before .enum-told2 .given .1) at (c .before .before .before .before .before .before .before .before .before .before .before .before .before .test-after2 .ensures)) (differs (c .before .before .before .before .before .before .before .before .before .same .ensures) (c .before .before .before .before .before .before .before .before .if3 .left)) (differs (c .before .before .before .before .before .before .same2 .ensures) (c .before .before .before .before .before .if4 .left)) (rw (c .enum-told3 .given .1) at (c .before .before .numbered .ensures))
 
 pub load-of-spec : {M : Type 1} → statement M
 load-of-spec =
     tie.close
     (tie.spec
-    slice-aggregate-same
-    same-requires
     returns
-    slice-aggregate-same-2
-    same-requires-2
-    returns-2
-    slice-aggregate-same-3
-    same-requires-3
-    returns-3
-    slice-aggregate-same-4
-    same-requires-4
-    returns-4
+    shared-slice-read-if2
     slice-aggregate-test-after
     test-after-requires
     enum-known-o
-    returns-5
+    returns-2
     enum-told
+    returns-3
+    slice-aggregate-test-after-2
+    test-after-requires-2
+    enum-known-o-2
+    returns-4
+    enum-told-2
+    slice-aggregate-same
+    same-requires
+    returns-5
+    slice-aggregate-same-2
+    same-requires-2
+    returns-6
     slice-aggregate-numbered
     slice-aggregate-numbered-2
     numbered-requires
     enum-known-n
-    returns-6
-    enum-told-2
-    test-of-requires
-    returns-7)
+    returns-7
+    enum-told-3
+    returns-8)

@@ -6,7 +6,7 @@ use native.Mathlib.Omega.{arith}
 use Rattle.meaning.specs.Rows.{table}
 use Rattle.meaning.specs.RowsLaws.{rows-snoc}
 use Rattle.format.specs.Text.{blockLine}
-use Rattle.lines.specs.Put.{Put, put-put, put-none, put-length}
+use Rattle.lines.specs.Fit.{Fit, fit-fit, fit-none}
 use Rattle.lines.proofs.put_blocks.Statement.{statement}
 use Rattle.lines.proofs.put_blocks.Tie as tie
 use Rattle.lines.proofs.put_blocks.Reads as reads
@@ -14,7 +14,7 @@ use Rattle.lines.proofs.put_blocks.Lts as lts
 use Rattle.lines.proofs.put_block.Reads as put-block-reads
 
 abbrev Inv-loop : tie.InvT-loop
-Inv-loop out₀ at d n₀ p₀ out n p = (n ≤ d) × Put out₀ at (flatMap blockLine (table (λ k. k) 1 n)) out p
+Inv-loop out₀ at d n₀ p₀ out n p = (n ≤ d) × Fit out₀ at (flatMap blockLine (table (λ k. k) 1 n)) out p
 
 abbrev μ-loop : tie.MeasureT-loop
 μ-loop out₀ at d n₀ p₀ out n p = d - n
@@ -22,7 +22,7 @@ abbrev μ-loop : tie.MeasureT-loop
 -- src/lib.rt:122:5
 loop-holds : tie.Need-loop-holds Inv-loop μ-loop
 unfolding flatMap table
-loop-holds c = (omega arith, put-none _ _ (omega arith) (omega arith))
+loop-holds c = (omega arith, fit-none _ _ (omega arith) (omega arith))
 
 -- src/lib.rt:123:9
 add-n : tie.Need-add-n Inv-loop μ-loop
@@ -41,11 +41,11 @@ loop-again : tie.Need-loop-again Inv-loop μ-loop
 loop-again c =
     let n : ℕ = c .before .before .before .before .before .loop .n in
     let e : 1 + n ≡ n + 1 = omega arith in
-    (omega arith, rw (add-one, rows-snoc blockLine 1 n, e) (put-put (c .before .before .before .before .before .loop .inv .1) (c .before .before .put-block .ensures)))
+    (omega arith, rw (add-one, rows-snoc blockLine 1 n, e) (fit-fit (c .before .before .before .before .before .loop .inv .1) (c .before .before .put-block .ensures)))
 
 -- src/lib.rt:117:1
 same-length : tie.Need-same-length Inv-loop μ-loop
-same-length c = put-length (c .before .loop .inv .1)
+same-length c = c .before .loop .inv .1 .long
 
 -- src/lib.rt:117:1
 returns : tie.Need-returns Inv-loop μ-loop

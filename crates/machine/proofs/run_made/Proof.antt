@@ -1,6 +1,5 @@
-use borrow.Author.Needs.{needs}
 use native.Mathlib.Omega.{arith}
-use mathlib.Core.Path.{_≡_, refl, ap, sym, _∙_}
+use mathlib.Core.Path.{_≡_, refl, ap, _∙_}
 use Prim.Native.Nat.{_≤_, _-_}
 use lib.ListN.{length, getD, set, take}
 use lib.Seq.{take-all}
@@ -16,24 +15,14 @@ use Rattle.machine.proofs.run_made.Statement.{statement}
 use Rattle.machine.proofs.run_made.Tie as tie
 
 abbrev Inv-loop : tie.InvT-loop
-Inv-loop chart states moves presets runs shows links asks most inputs leaves₀ outputs₀ memory₀ timers₀ l₀ i₀ leaves outputs memory timers l i =
-    (i ≤ length inputs) × (length leaves ≡ length leaves₀) × (length outputs ≡ length outputs₀) × (length memory ≡ 256) × (length timers ≡ 32)
+Inv-loop chart states moves presets runs shows links asks most memory₀ timers₀ inputs leaves₀ outputs₀ l₀ i₀ memory timers leaves outputs l i =
+    (i ≤ length inputs) × (length leaves ≡ length leaves₀) × (length outputs ≡ length outputs₀) × (length memory ≡ length memory₀) × (length timers ≡ length timers₀)
     × ((c : Tables) → c .step ≡ chart .step → c .states ≡ states → c .moves ≡ moves → c .presets ≡ presets → Rules c → Made c runs links asks most → Worded c (c .outputPairs) shows
-    → Valid c (held c memory₀ timers₀) → length leaves₀ ≡ length inputs → length outputs₀ ≡ length inputs
+    → stateCount c ≤ length memory₀ → length timers₀ ≡ 32 → Valid c (held c memory₀ timers₀) → length leaves₀ ≡ length inputs → length outputs₀ ≡ length inputs
     → Scanned c (held c memory₀ timers₀) (take i inputs) (held c memory timers) (take i leaves) (take i outputs) × (l ≡ activeLeaf c (take (stateCount c) memory)))
 
 abbrev μ-loop : tie.MeasureT-loop
-μ-loop chart states moves presets runs shows links asks most inputs leaves₀ outputs₀ memory₀ timers₀ l₀ i₀ leaves outputs memory timers l i = length inputs - i
-
--- the arrays of the state are whole
-memory-long : (c : tie.Start Inv-loop μ-loop) → length (c .args .m .memory) ≡ 256
-memory-long c = search needs
-
-timers-long : (c : tie.Start Inv-loop μ-loop) → length (c .args .m .timers) ≡ 32
-timers-long c = search needs
-
-slice-aggregate-active-leaf : tie.Need-slice-aggregate-active-leaf Inv-loop μ-loop
-slice-aggregate-active-leaf c = search needs
+μ-loop chart states moves presets runs shows links asks most memory₀ timers₀ inputs leaves₀ outputs₀ l₀ i₀ memory timers leaves outputs l i = length inputs - i
 
 active-leaf-requires : tie.Need-active-leaf-requires Inv-loop μ-loop
 active-leaf-requires c κs = tt
@@ -44,17 +33,11 @@ loop-holds c = (
   omega arith,
   refl,
   refl,
-  memory-long (c .before .before .before .before .before .before .before .before .before .before .before .before .before .before),
-  timers-long (c .before .before .before .before .before .before .before .before .before .before .before .before .before .before),
-  λ c' d e f g R M W v p q.
-      (record { state = refl; leaves = refl; outputs = refl }, c .active-leaf .ensures ∙ walk-active c' R (c .before .before .before .before .before .before .before .before .before .before .before .before .before .before .args .m .memory) (valid-sound c' R _ v)),
+  refl,
+  refl,
+  λ c' d e f g R M W lm lt v p q.
+      (record { state = refl; leaves = refl; outputs = refl }, c .active-leaf .ensures ∙ walk-active c' R (c .before .before .before .before .before .before .before .before .before .before .before .before .before .before .args .memory .now) (valid-sound c' R _ v)),
 )
-
-slice-aggregate-scan : tie.Need-slice-aggregate-scan Inv-loop μ-loop
-slice-aggregate-scan c = sym (c .before .before .loop .inv .3)
-
-slice-aggregate-scan-2 : tie.Need-slice-aggregate-scan-2 Inv-loop μ-loop
-slice-aggregate-scan-2 c = sym (c .before .before .before .loop .inv .4)
 
 mul-scan : tie.Need-mul-scan Inv-loop μ-loop
 mul-scan c = omega arith
@@ -69,17 +52,17 @@ show-requires : tie.Need-show-requires Inv-loop μ-loop
 show-requires c κs = tt
 
 add-i : tie.Need-add-i Inv-loop μ-loop
-add-i c = record { fits = (let h = c .before .before .before .before .before .before .before .before .before .before .before .before .before .loop-test .taken in omega (arith, c .before .before .before .before .before .before .before .before .before .before .before .before .before .before .before .before .before .before .before .before .before .before .before .before .before .before .before .before .before .good .1 .1 .1 .1 .1 .1 .1 .1 .1 .1 .0)) }
+add-i c = record { fits = (let h = c .before .before .before .before .before .before .before .before .before .before .before .before .before .before .before .loop-test .taken in omega (arith, c .before .before .before .before .before .before .before .before .before .before .before .before .before .before .before .before .before .before .before .before .before .before .before .before .before .before .before .before .before .before .before .good .1 .1 .1 .1 .1 .1 .1 .1 .1 .1 .1 .0)) }
 
 loop-less : tie.Need-loop-less Inv-loop μ-loop
 loop-less c = omega arith
 
 loop-again : tie.Need-loop-again Inv-loop μ-loop
 loop-again c =
-    let a = c .before .before .before .before .before .before .before .before .before .before .before .before .before .before .before .before .before .before .before .before .before .before .before .before .before .before .before .before .before .args in
-    let b = c .before .before .before .before .before .before .before .before .before .before .before .before .before .before .loop in
-    let i = c .before .before .before .before .before .before .before .before .before .before .before .before .before .loop-test .taken in
-    let n = c .before .before .before .before .before .before .before .before .before .scan in
+    let a = c .before .before .before .before .before .before .before .before .before .before .before .before .before .before .before .before .before .before .before .before .before .before .before .before .before .before .before .before .before .before .before .args in
+    let b = c .before .before .before .before .before .before .before .before .before .before .before .before .before .before .before .before .loop in
+    let i = c .before .before .before .before .before .before .before .before .before .before .before .before .before .before .before .loop-test .taken in
+    let n = c .before .before .before .before .before .before .before .before .before .before .before .scan in
     let m' = n .last .1 .1 .1 .1 .1 .1 .1 .1 .0 in
     let ts' = n .last .1 .1 .1 .1 .1 .1 .1 .1 .1 .0 in
     let s = c .before .before .before .before .show in (
@@ -88,13 +71,13 @@ loop-again c =
       s .kept .1 .1 .1 .1 .0 ∙ b .inv .2,
       n .kept .1 .1 .1 .1 .1 .1 .1 .1 .0 ∙ b .inv .3,
       n .kept .1 .1 .1 .1 .1 .1 .1 .1 .1 .0 ∙ b .inv .4,
-      λ c' d e f g R M W v p q.
-          let r = b .inv .5 c' d e f g R M W v p q in
+      λ c' d e f g R M W lm lt v p q.
+          let r = b .inv .5 c' d e f g R M W lm lt v p q in
           let w : Valid c' (held c' (b .memory) (b .timers)) = rw (r .0 .state) (after-valid c' R (take (b .i) (a .inputs .now)) _ v) in
-          let t = n .ensures c' d e f g R M (b .inv .3) (b .inv .4) w (r .1) in
+          let t = n .ensures c' d e f g R M (omega (arith, lm, b .inv .3)) (b .inv .4 ∙ lt) w (r .1) in
           let u : Valid c' (held c' m' ts') = rw (t .0) (step-valid c' R _ _ w) in
           let o = s .ensures c' R W (rw (t .1) (leaf-known c' R m' (valid-sound c' R _ u))) in (
-            ran-shown c' (held c' (a .m .memory) (a .m .timers)) (a .inputs .now) (b .leaves) (b .outputs) (s .last .1 .1 .1 .0) (s .last .1 .1 .1 .1 .0)
+            ran-shown c' (held c' (a .memory .now) (a .timers .now)) (a .inputs .now) (b .leaves) (b .outputs) (s .last .1 .1 .1 .0) (s .last .1 .1 .1 .1 .0)
                 (b .memory) (b .timers) m' ts' (b .i) (getD (a .inputs .now) (b .i) 0) refl i (omega (arith, b .inv .1, p, i)) (omega (arith, b .inv .2, q, i)) (r .0) (t .0)
                 (o .0 ∙ ap (set (b .leaves) (b .i)) (t .1)) (o .1 ∙ ap (λ l. set (b .outputs) (b .i) (seenAt c' l .outputs)) (t .1)),
             t .1,
@@ -102,17 +85,23 @@ loop-again c =
     )
 
 same-length : tie.Need-same-length Inv-loop μ-loop
-same-length c = c .before .loop .inv .1
+same-length c = c .before .loop .inv .3
 
 same-length-2 : tie.Need-same-length-2 Inv-loop μ-loop
-same-length-2 c = c .before .loop .inv .2
+same-length-2 c = c .before .loop .inv .4
+
+same-length-3 : tie.Need-same-length-3 Inv-loop μ-loop
+same-length-3 c = c .before .loop .inv .1
+
+same-length-4 : tie.Need-same-length-4 Inv-loop μ-loop
+same-length-4 c = c .before .loop .inv .2
 
 returns : tie.Need-returns Inv-loop μ-loop
-returns c c' d e f g R M W v p q =
+returns c c' d e f g R M W lm lt v p q =
     let b = c .before .loop in
     let a = c .before .before .before .before .before .before .before .before .before .before .before .before .before .before .before .before .args in
     let n : length (a .inputs .now) ≤ b .i = omega arith in
-    rw (take-all (b .i) (a .inputs .now) n, take-all (b .i) (b .leaves) (omega (arith, b .inv .1)), take-all (b .i) (b .outputs) (omega (arith, b .inv .2))) at (b .inv .5 c' d e f g R M W v p q .0)
+    rw (take-all (b .i) (a .inputs .now) n, take-all (b .i) (b .leaves) (omega (arith, b .inv .1)), take-all (b .i) (b .outputs) (omega (arith, b .inv .2))) at (b .inv .5 c' d e f g R M W lm lt v p q .0)
 
 pub run-made-spec : {M : Type 1} → statement M
 run-made-spec =
@@ -120,11 +109,8 @@ run-made-spec =
     (tie.spec
     Inv-loop
     μ-loop
-    slice-aggregate-active-leaf
     active-leaf-requires
     loop-holds
-    slice-aggregate-scan
-    slice-aggregate-scan-2
     mul-scan
     shared-slice-read-scan
     scan-requires
@@ -134,4 +120,6 @@ run-made-spec =
     loop-again
     same-length
     same-length-2
+    same-length-3
+    same-length-4
     returns)

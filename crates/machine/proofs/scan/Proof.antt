@@ -9,7 +9,7 @@ use Rattle.meaning.specs.Hierarchy.{paired}
 use Rattle.meaning.specs.Literals.{inputOn}
 use Rattle.meaning.specs.Machine.{activeLeaf, step}
 use Rattle.meaning.specs.MachineLaws.{Sound, valid-sound, step-valid}
-use Rattle.paths.specs.FlagsLaws.{walk-active, leaf-known}
+use Rattle.paths.specs.FlagsLaws.{leaf-known}
 use Rattle.paths.specs.WordsLaws.{and-bit}
 use Rattle.machine.specs.Held.{held, grown}
 use Rattle.machine.specs.StepLaws.{chosen-on, step-held}
@@ -26,11 +26,8 @@ expired-of-requires c κs = search needs
 chosen-requires : tie.Need-chosen-requires
 chosen-requires c κs = search needs
 
-enter-requires : tie.Need-enter-requires
-enter-requires c κs = search needs
-
-active-leaf-requires : tie.Need-active-leaf-requires
-active-leaf-requires c κs = search needs
+leaf-after-requires : tie.Need-leaf-after-requires
+leaf-after-requires c κs = search needs
 
 word-requires-2 : tie.Need-word-requires-2
 word-requires-2 c κs = search needs
@@ -46,29 +43,30 @@ same-length-2 c = search needs
 
 returns : tie.Need-returns
 returns c c' d e f g R M lm lt val le =
-    let a = c .before .before .before .before .before .before .before .before .before .before .before .before .before .before .before .before .before .before .before .before .before .before .before .args in
+    let a = c .before .before .before .before .before .before .before .before .before .before .before .before .before .before .before .before .before .before .before .before .before .args in
     let m = a .memory .now in
     let ts = a .timers .now in
-    let m' = c .before .before .before .before .before .before .before .before .before .enter .last .1 .1 .1 .0 in
+    let m' = c .before .before .before .before .before .before .before .leaf-after .last .1 .1 .1 .1 .0 in
     let ts' = c .before .before .time .last .1 .1 .1 .1 .0 in
-    let ran = c .before .before .before .before .before .before .before .before .before .before .before .before .before .before .word .result in
-    let y = c .before .before .before .before .before .before .before .before .before .before .before .before .expired-of .result in
+    let ran = c .before .before .before .before .before .before .before .before .before .before .before .before .word .result in
+    let y = c .before .before .before .before .before .before .before .before .before .before .expired-of .result in
     let goes = bitAnd ran (c .before .before .before .before .word2 .result) in
-    let i = c .before .before .before .before .before .before .before .before .before .before .before .chosen .result in
+    let i = c .before .before .before .before .before .before .before .before .before .chosen .result in
     let few = R .size .fewStates in
     let S = valid-sound c' R (held c' m ts) val in
     let known : a .l < stateCount c' = rw le (leaf-known c' R m S) in
     let count : timerCount c' ≡ length (a .presets .now) = unfold timerCount in (ap length g) in
     let fewer : length (a .presets .now) ≤ 32 = omega (arith, count, R .size .fewTimers) in
-    let bits : (n : ℕ) → n < 64 → inputOn ran (suc n) ≡ paired c' (c' .timerPairs) (suc n) (a .l) = λ n z. rw (c .before .before .before .before .before .before .before .before .before .before .before .before .before .before .word .ensures) (M .running (a .l) n known z) in
-    let q = c .before .before .before .before .before .before .before .before .before .before .before .chosen .ensures c' e f R (M .linked) (M .asked) (M .room) (omega (arith, known, few))
-    ∙ chosen-on c' R (a .x) ran y (a .l) m ts le bits (λ j z. rw g (c .before .before .before .before .before .before .before .before .before .before .before .before .expired-of .ensures fewer j (omega (arith, count, z)))) in
-    let next : (T : Sound c' (take (stateCount c') m')) → c .before .before .before .before .before .active-leaf .result ≡ activeLeaf c' (take (stateCount c') m') = λ T. c .before .before .before .before .before .active-leaf .ensures ∙ walk-active c' R m' T in
+    let bits : (n : ℕ) → n < 64 → inputOn ran (suc n) ≡ paired c' (c' .timerPairs) (suc n) (a .l) = λ n z. rw (c .before .before .before .before .before .before .before .before .before .before .before .before .word .ensures) (M .running (a .l) n known z) in
+    let q = c .before .before .before .before .before .before .before .before .before .chosen .ensures c' e f R (M .linked) (M .asked) (M .room) (omega (arith, known, few))
+    ∙ chosen-on c' R (a .x) ran y (a .l) m ts le bits (λ j z. rw g (c .before .before .before .before .before .before .before .before .before .before .expired-of .ensures fewer j (omega (arith, count, z)))) in
+    let after = c .before .before .before .before .before .before .before .leaf-after .ensures c' e f R lm le in
+    let next : (T : Sound c' (take (stateCount c') m')) → c .before .before .before .before .before .before .before .leaf-after .result ≡ activeLeaf c' (take (stateCount c') m') = after .1 in
     let both : (T : Sound c' (take (stateCount c') m')) (n : ℕ) → n < 64 → inputOn goes (suc n) ≡ (paired c' (c' .timerPairs) (suc n) (activeLeaf c' (take (stateCount c') m)) && paired c' (c' .timerPairs) (suc n) (activeLeaf c' (take (stateCount c') m'))) = λ T n z.
     and-bit ran (c .before .before .before .before .word2 .result) (suc n) ∙ ap₂ (λ (p q : Bool). p && q) (bits n z ∙ ap (paired c' (c' .timerPairs) (suc n)) le)
-    (ap (λ w. inputOn w (suc n)) (c .before .before .before .before .word2 .ensures) ∙ M .running (c .before .before .before .before .before .active-leaf .result) n (rw (next T) (leaf-known c' R m' T)) z ∙ ap (paired c' (c' .timerPairs) (suc n)) (next T)) in
+    (ap (λ w. inputOn w (suc n)) (c .before .before .before .before .word2 .ensures) ∙ M .running (c .before .before .before .before .before .before .before .leaf-after .result) n (rw (next T) (leaf-known c' R m' T)) z ∙ ap (paired c' (c' .timerPairs) (suc n)) (next T)) in
     let held' : held c' m' ts' ≡ step c' (a .x) (held c' m ts) = step-held c' R (a .x) i goes m ts m' ts' val (c .before .before .time .kept .1 .1 .1 .1 .0 ∙ lt) q
-    (c .before .before .before .before .before .before .before .before .before .enter .ensures c' e f R (omega (arith, lm, few))) both
+    (after .0) both
     (λ j z. c .before .before .time .ensures fewer (omega (arith, lt, fewer)) j (omega (arith, count, z)) ∙ ap₂ (λ (u w : ℕ). grown u w (inputOn goes (suc j)) (getD ts j 0)) (sym d) (M .longest j z)) in
     (held', next (valid-sound c' R (held c' m' ts') (rw held' (step-valid c' R (a .x) (held c' m ts) val))))
 
@@ -79,8 +77,7 @@ scan-spec =
     word-requires
     expired-of-requires
     chosen-requires
-    enter-requires
-    active-leaf-requires
+    leaf-after-requires
     word-requires-2
     time-requires
     same-length

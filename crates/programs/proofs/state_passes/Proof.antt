@@ -7,28 +7,28 @@ use Rattle.programs.proofs.state_passes.Tie as tie
 use Rattle.programs.proofs.state_passes.Reads as reads
 use Rattle.programs.proofs.state_passes.Lts as lts
 use Rattle.controller.proofs.are_bits.Reads as are-bits-reads
-use Rattle.controller.proofs.controller_size.Reads as controller-size-reads
+use Rattle.controller.proofs.flip_flop_bytes.Reads as flip-flop-bytes-reads
 
 -- src/lib.rt:30:9
-controller-size-requires : tie.Need-controller-size-requires
-controller-size-requires c κs = search needs
+flip-flop-bytes-requires : tie.Need-flip-flop-bytes-requires
+flip-flop-bytes-requires c κs = search needs
 
--- src/lib.rt:34:9
+-- src/lib.rt:32:9
 returns : tie.Need-returns
-returns c = ((λ e. absurd (false≢true e)), (λ h. absurd (omega (arith, h .size, c .before .controller-size .ensures .bytes))))
+returns c = ((λ e. absurd (false≢true e)), (λ h. absurd (omega (arith, h .size, c .before .flip-flop-bytes .ensures))))
 
--- src/lib.rt:37:9
+-- src/lib.rt:35:9
 returns-2 : tie.Need-returns-2
-returns-2 c = ((λ e. absurd (false≢true e)), (λ h. absurd (omega (arith, h .blocks, c .before .before .controller-size .ensures .blocks))))
+returns-2 c = ((λ e. absurd (false≢true e)), (λ h. absurd (omega (arith, h .blocks))))
 
--- src/lib.rt:40:9
+-- src/lib.rt:38:9
 are-bits-requires : tie.Need-are-bits-requires
 are-bits-requires c κs = search needs
 
--- src/lib.rt:40:9
+-- src/lib.rt:38:9
 returns-3 : tie.Need-returns-3
 returns-3 c = (
-  (λ e. record { size = omega (arith, c .before .before .before .before .controller-size .ensures .bytes); blocks = omega (arith, c .before .before .before .before .controller-size .ensures .blocks); bits = c .are-bits .ensures .0 e; times = c .before .if3 .taken }),
+  (λ e. record { size = omega (arith, c .before .before .before .before .flip-flop-bytes .ensures); blocks = omega arith; bits = c .are-bits .ensures .0 e; times = c .before .if3 .taken }),
   (λ h. c .are-bits .ensures .1 (h .bits)),
 )
 
@@ -39,4 +39,4 @@ returns-4 c = ((λ e. absurd (false≢true e)), (λ h. absurd (false≢true (sym
 pub state-passes-spec : {M : Type 1} → statement M
 state-passes-spec =
     tie.close
-    (tie.spec controller-size-requires returns returns-2 are-bits-requires returns-3 returns-4)
+    (tie.spec flip-flop-bytes-requires returns returns-2 are-bits-requires returns-3 returns-4)

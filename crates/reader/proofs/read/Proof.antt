@@ -1,7 +1,7 @@
 use mathlib.Core.Path.{_≡_}
 use mathlib.Core.List.{_++_}
 use native.Mathlib.Omega.{arith}
-use lib.ListN.{length}
+use lib.ListN.{length, length-take}
 use Rattle.reader.specs.ReadLaws.{empty-part, read-cramped, read-passed, read-stopped}
 use borrow.Author.Needs.{needs}
 use Rattle.reader.proofs.read.Statement.{statement}
@@ -16,7 +16,9 @@ slice-relend-prefix-pass c = search needs
 
 -- src/lib.rt:90:31
 slice-aggregate-pass : tie.Need-slice-aggregate-pass
-slice-aggregate-pass c = search needs
+slice-aggregate-pass c =
+    let l = c .before .before .before .args .out .now in
+    omega (arith, length-take 0 l, length-take (length l) l)
 
 -- src/lib.rt:90:9
 pass-requires : tie.Need-pass-requires

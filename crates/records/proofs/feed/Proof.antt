@@ -1,50 +1,41 @@
 use Rattle.records.proofs.feed.Statement.{statement}
 use Rattle.records.proofs.feed.Tie as tie
-use mathlib.Core.Path.{_≡_, refl, sym, _∙_, ap}
-use Prim.Native.Nat.{ℕ, _≤_, _<_, _-_}
+use Prim.Native.Nat.{_-_}
 use native.Mathlib.Omega.{arith}
-use native.Mathlib.Numerals.{add-one}
 use borrow.Author.Needs.{needs}
-use lib.ListN.{length, drop, getD, drop-of-length-le}
-use lib.Seq.{sets, drop-cons, length-sets}
-use Rattle.records.specs.Automaton.{feedAll, emitted, feedByte, emits}
-use Rattle.records.specs.StepLaws.{sets-next}
-use Rattle.records.specs.StepLaws.{Turn, turn}
+use lib.ListN.{length, drop-of-length-le}
+use Rattle.records.specs.Automaton.{feedAll, emitted}
+use Rattle.records.specs.Bare.{Turn}
+use Rattle.records.specs.BareLaws.{turn-none, turn-then}
 
 abbrev Inv-loop : tie.InvT-loop
-Inv-loop bytes out₀ s₀ i₀ out s i =
-    (i ≤ length bytes) × (length out ≡ length out₀) × (feedAll s (drop i bytes) ≡ feedAll s₀ bytes) × (sets out (s .at) (emitted s (drop i bytes)) ≡ sets out₀ (s₀ .at) (emitted s₀ bytes))
+Inv-loop bytes out₀ s₀ i₀ out s i = Turn s₀ s bytes out₀ out 0 i
 
 abbrev μ-loop : tie.MeasureT-loop
 μ-loop bytes out₀ s₀ i₀ out s i = length bytes - i
 
 loop-holds : tie.Need-loop-holds Inv-loop μ-loop
-loop-holds c = (search needs, refl, refl, refl)
+loop-holds c = turn-none _ _ _ _
 
-shared-slice-read-feed-byte : tie.Need-shared-slice-read-feed-byte Inv-loop μ-loop
-shared-slice-read-feed-byte c = search needs
+feed-bare-requires : tie.Need-feed-bare-requires Inv-loop μ-loop
+feed-bare-requires c κs = search needs
 
-feed-byte-requires : tie.Need-feed-byte-requires Inv-loop μ-loop
-feed-byte-requires c κs = search needs
-
-add-i : tie.Need-add-i Inv-loop μ-loop
-add-i c = search needs
+feed-field-requires : tie.Need-feed-field-requires Inv-loop μ-loop
+feed-field-requires c κs = search needs
 
 loop-less : tie.Need-loop-less Inv-loop μ-loop
-loop-less c = omega arith
+loop-less c = omega (arith, c .before .before .before .before .before .before .before .feed-bare .ensures .on, c .before .before .before .feed-field .ensures .further)
 
 loop-again : tie.Need-loop-again Inv-loop μ-loop
-loop-again c = (let k = c .before .before .before .before .before .before in
-    let t = turn (k .loop .s) (c .before .before .feed-byte .result) (k .before .before .before .args .bytes .now) (k .loop .out) (c .before .before .feed-byte .last .1 .1 .0) (k .loop .i) (search needs) (search needs) (c .before .before .feed-byte .ensures) in
-    (omega arith, t .lengths ∙ k .loop .inv .1, t .state ∙ k .loop .inv .2, t .stored ∙ k .loop .inv .3))
+loop-again c = turn-then (c .before .before .before .before .before .before .before .before .before .before .loop .inv) (turn-then (c .before .before .before .before .before .before .before .feed-bare .ensures .turn) (c .before .before .before .feed-field .ensures .went .turn))
 
 same-length : tie.Need-same-length Inv-loop μ-loop
-same-length c = c .before .loop .inv .1
+same-length c = c .before .loop .inv .lengths
 
 returns : tie.Need-returns Inv-loop μ-loop
 unfolding feedAll emitted
 returns c = (let e = drop-of-length-le (c .before .before .before .before .args .bytes .now) {i = c .before .loop .i} (c .loop-test .left) in
-    record { state = rw e at (c .before .loop .inv .2); stored = rw e at (c .before .loop .inv .3) })
+    record { state = rw e at (c .before .loop .inv .state); stored = rw e at (c .before .loop .inv .stored) })
 
 pub feed-spec : {M : Type 1} → statement M
 feed-spec =
@@ -53,9 +44,8 @@ feed-spec =
     Inv-loop
     μ-loop
     loop-holds
-    shared-slice-read-feed-byte
-    feed-byte-requires
-    add-i
+    feed-bare-requires
+    feed-field-requires
     loop-less
     loop-again
     same-length

@@ -6,8 +6,8 @@ use lib.ListN.{length}
 use Rattle.meaning.specs.Rows.{table}
 use Rattle.meaning.specs.Tables.{Tables, pairState}
 use Rattle.meaning.specs.Written.{stateTests}
-use Rattle.lines.specs.Put.{Put}
-use Rattle.bits.specs.Sent.{lines, Drawn}
+use Rattle.lines.specs.Fit.{Fit}
+use Rattle.bits.specs.Sent.{lines, laid, Drawn}
 use Rattle.bits.specs.SentLaws.{put-lines, put-nil}
 use Rattle.rungs.specs.Pairs.{Known, bracketOf, brackets}
 use Rattle.rungs.specs.PairLaws.{brackets-snoc}
@@ -15,12 +15,12 @@ use Rattle.rungs.proofs.put_brackets.Statement.{statement}
 use Rattle.rungs.proofs.put_brackets.Tie as tie
 
 abbrev Inv-loop : tie.InvT-loop
-Inv-loop out₀ at states layout pairs from to p₀ i₀ out p i =
+Inv-loop out₀ at states first width code total pairs from to p₀ i₀ out p i =
     (from ≤ i) × (i - from ≤ to - from) × (length out ≡ length out₀)
-    × ((c : Tables) → Drawn c states layout → Known c pairs from to → Put out₀ at (lines (brackets c pairs from (i - from))) out p)
+    × ((c : Tables) → Drawn c states (laid first width code total) → Known c pairs from to → Fit out₀ at (lines (brackets c pairs from (i - from))) out p)
 
 abbrev μ-loop : tie.MeasureT-loop
-μ-loop out₀ at states layout pairs from to p₀ i₀ out p i = to - i
+μ-loop out₀ at states first width code total pairs from to p₀ i₀ out p i = to - i
 
 loop-holds : tie.Need-loop-holds Inv-loop μ-loop
 unfolding brackets flatMap table

@@ -6,21 +6,21 @@ use lib.ListN.{length}
 use Rattle.meaning.specs.Tables.{Tables, stateCount, initial}
 use Rattle.meaning.specs.Hierarchy.{depth}
 use Rattle.meaning.specs.Written.{groupBits, bitStore, initialStores}
-use Rattle.lines.specs.Put.{Put}
-use Rattle.bits.specs.Sent.{lines, Drawn}
+use Rattle.lines.specs.Fit.{Fit}
+use Rattle.bits.specs.Sent.{lines, laid, Drawn}
 use Rattle.bits.specs.SentLaws.{put-lines, put-nil}
 use Rattle.rungs.specs.RungLaws.{group-put, at-leaf, at-super}
 use Rattle.rungs.proofs.put_initials.Statement.{statement}
 use Rattle.rungs.proofs.put_initials.Tie as tie
 
 abbrev Inv-loop : tie.InvT-loop
-Inv-loop out₀ at states layout t p₀ s₀ k₀ out p s k =
+Inv-loop out₀ at states first width code total t p₀ s₀ k₀ out p s k =
     (length out ≡ length out₀) × (p ≤ 18446744073709551615)
-    × ((c : Tables) → Drawn c states layout → t < stateCount c → (s < stateCount c)
-    × ((m : List ℕ) (r : ℕ) → Put out p (lines (initialStores c (8 - k) s)) m r → Put out₀ at (lines (initialStores c (8 - depth c t) t)) m r))
+    × ((c : Tables) → Drawn c states (laid first width code total) → t < stateCount c → (s < stateCount c)
+    × ((m : List ℕ) (r : ℕ) → Fit out p (lines (initialStores c (8 - k) s)) m r → Fit out₀ at (lines (initialStores c (8 - depth c t) t)) m r))
 
 abbrev μ-loop : tie.MeasureT-loop
-μ-loop out₀ at states layout t p₀ s₀ k₀ out p s k = 8 - k
+μ-loop out₀ at states first width code total t p₀ s₀ k₀ out p s k = 8 - k
 
 depth-requires : tie.Need-depth-requires Inv-loop μ-loop
 depth-requires c κs = tt

@@ -1,5 +1,5 @@
 use Rattle.words.specs.ByWords.{wordsText}
-use Rattle.lines.specs.Put.{put-put}
+use Rattle.lines.specs.Fit.{fit-fit}
 use mathlib.Core.List.{append-assoc}
 use Rattle.format.specs.Text.{bytes, line}
 use borrow.Author.Needs.{needs}
@@ -30,7 +30,7 @@ same-length c = search needs
 -- src/lib.rt:50:1
 returns : tie.Need-returns
 unfolding wordsText
-returns c = rw (← append-assoc (line (bytes "PROGRAM CHART"))) (put-put (c .before .before .before .before .before .before .before .before .before .before .put-head .ensures) (put-put (c .before .before .before .before .before .before .put-words .ensures) (c .before .before .put-end .ensures)))
+returns c = rw (← append-assoc (line (bytes "PROGRAM CHART"))) (fit-fit (c .before .before .before .before .before .before .before .before .before .before .put-head .ensures) (fit-fit (c .before .before .before .before .before .before .put-words .ensures) (c .before .before .put-end .ensures)))
 
 pub put-text-spec : {M : Type 1} → statement M
 put-text-spec =

@@ -1,5 +1,5 @@
 use Rattle.words.specs.ByWords.{wordLine, lines-next}
-use Rattle.lines.specs.Put.{Put, put-put, put-none, put-length}
+use Rattle.lines.specs.Fit.{Fit, fit-fit, fit-none}
 use borrow.Author.Needs.{needs}
 use lib.Seq.{take-length}
 use lib.ListN.{length, take}
@@ -11,11 +11,10 @@ use Rattle.words.proofs.put_words.Statement.{statement}
 use Rattle.words.proofs.put_words.Tie as tie
 use Rattle.words.proofs.put_words.Reads as reads
 use Rattle.words.proofs.put_words.Lts as lts
-use Rattle.decode.proofs.decode.Reads as decode-reads
-use Rattle.words.proofs.put_decoded.Reads as put-decoded-reads
+use Rattle.words.proofs.put_word.Reads as put-word-reads
 
 abbrev Inv-loop : tie.InvT-loop
-Inv-loop out₀ at words i₀ p₀ out i p = (i ≤ length words) × Put out₀ at (flatMap wordLine (take i words)) out p
+Inv-loop out₀ at words i₀ p₀ out i p = (i ≤ length words) × Fit out₀ at (flatMap wordLine (take i words)) out p
 
 abbrev μ-loop : tie.MeasureT-loop
 μ-loop out₀ at words i₀ p₀ out i p = length words - i
@@ -23,23 +22,19 @@ abbrev μ-loop : tie.MeasureT-loop
 -- src/lib.rt:41:5
 loop-holds : tie.Need-loop-holds Inv-loop μ-loop
 unfolding flatMap
-loop-holds c = (omega arith, put-none _ _ (omega arith) (omega arith))
+loop-holds c = (omega arith, fit-none _ _ (omega arith) (omega arith))
 
 -- src/lib.rt:42:32
-mul-decode : tie.Need-mul-decode Inv-loop μ-loop
-mul-decode c = search needs
+mul-w : tie.Need-mul-w Inv-loop μ-loop
+mul-w c = search needs
 
 -- src/lib.rt:42:32
-shared-slice-read-decode : tie.Need-shared-slice-read-decode Inv-loop μ-loop
-shared-slice-read-decode c = search needs
-
--- src/lib.rt:42:13
-decode-requires : tie.Need-decode-requires Inv-loop μ-loop
-decode-requires c κs = search needs
+shared-slice-read-w : tie.Need-shared-slice-read-w Inv-loop μ-loop
+shared-slice-read-w c = search needs
 
 -- src/lib.rt:43:9
-put-decoded-requires : tie.Need-put-decoded-requires Inv-loop μ-loop
-put-decoded-requires c κs = search needs
+put-word-requires : tie.Need-put-word-requires Inv-loop μ-loop
+put-word-requires c κs = search needs
 
 -- src/lib.rt:44:9
 add-i : tie.Need-add-i Inv-loop μ-loop
@@ -52,13 +47,13 @@ loop-less c = search needs
 -- src/lib.rt:41:5
 loop-again : tie.Need-loop-again Inv-loop μ-loop
 loop-again c =
-    let l = c .before .before .before .before .before .before .before .before .before .before .args .words .now in
-    let i = c .before .before .before .before .before .before .before .loop .i in
-    (omega arith, rw (lines-next l i (c .before .before .before .before .before .before .loop-test .taken), ← c .before .before .before .before .decode .ensures) (put-put (c .before .before .before .before .before .before .before .loop .inv .1) (c .before .before .put-decoded .ensures)))
+    let l = c .before .before .before .before .before .before .before .before .before .args .words .now in
+    let i = c .before .before .before .before .before .before .loop .i in
+    (omega arith, rw (lines-next l i (c .before .before .before .before .before .loop-test .taken)) (fit-fit (c .before .before .before .before .before .before .loop .inv .1) (c .before .before .put-word .ensures)))
 
 -- src/lib.rt:36:1
 same-length : tie.Need-same-length Inv-loop μ-loop
-same-length c = put-length (c .before .loop .inv .1)
+same-length c = c .before .loop .inv .1 .long
 
 -- src/lib.rt:36:1
 returns : tie.Need-returns Inv-loop μ-loop
@@ -73,10 +68,9 @@ put-words-spec =
     Inv-loop
     μ-loop
     loop-holds
-    mul-decode
-    shared-slice-read-decode
-    decode-requires
-    put-decoded-requires
+    mul-w
+    shared-slice-read-w
+    put-word-requires
     add-i
     loop-less
     loop-again

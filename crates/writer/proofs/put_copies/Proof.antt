@@ -5,8 +5,8 @@ use native.Mathlib.Numerals.{add-one}
 use native.Mathlib.Omega.{arith}
 use lib.ListN.{length}
 use Rattle.meaning.specs.Rows.{table}
-use Rattle.lines.specs.Put.{Put}
-use Rattle.bits.specs.Sent.{lines, Drawn}
+use Rattle.lines.specs.Fit.{Fit}
+use Rattle.bits.specs.Sent.{lines, laid, Drawn}
 use Rattle.bits.specs.SentLaws.{put-lines, put-nil}
 use Rattle.meaning.specs.Tables.{Tables}
 use Rattle.meaning.specs.Layout.{flipFlops}
@@ -20,7 +20,7 @@ use Rattle.writer.proofs.put_copies.Tie as tie
 
 abbrev Inv-loop : tie.InvT-loop
 Inv-loop out₀ at total p₀ b₀ out p b =
-    (b ≤ total) × (length out ≡ length out₀) × ((c : Tables) → Rules c → total ≡ flipFlops c → Put out₀ at (lines (copiesTo c b)) out p)
+    (b ≤ total) × (length out ≡ length out₀) × ((c : Tables) → Rules c → total ≡ flipFlops c → Fit out₀ at (lines (copiesTo c b)) out p)
 
 abbrev μ-loop : tie.MeasureT-loop
 μ-loop out₀ at total p₀ b₀ out p b = total - b

@@ -15,8 +15,8 @@ use Rattle.writer.proofs.put_output.Tie as tie
 put-pairs-requires : tie.Need-put-pairs-requires
 put-pairs-requires c κs = search needs
 
-cast-t16 : tie.Need-cast-t16
-cast-t16 c = search needs
+cast-t19 : tie.Need-cast-t19
+cast-t19 c = search needs
 
 put-operator-requires : tie.Need-put-operator-requires
 put-operator-requires c κs = search needs
@@ -34,4 +34,4 @@ returns c c' d e F h =
 
 pub put-output-spec : {M : Type 1} → statement M
 put-output-spec =
-    tie.close (tie.spec put-pairs-requires cast-t16 put-operator-requires same-length returns)
+    tie.close (tie.spec put-pairs-requires cast-t19 put-operator-requires same-length returns)

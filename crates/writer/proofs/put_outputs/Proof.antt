@@ -5,8 +5,8 @@ use native.Mathlib.Numerals.{add-one}
 use native.Mathlib.Omega.{arith}
 use lib.ListN.{length}
 use Rattle.meaning.specs.Rows.{table}
-use Rattle.lines.specs.Put.{Put}
-use Rattle.bits.specs.Sent.{lines, Drawn}
+use Rattle.lines.specs.Fit.{Fit}
+use Rattle.bits.specs.Sent.{lines, laid, Drawn}
 use Rattle.bits.specs.SentLaws.{put-lines, put-nil}
 use Rattle.meaning.specs.Tables.{Tables}
 use Rattle.meaning.specs.Programs.{rungOf}
@@ -19,12 +19,12 @@ use Rattle.writer.proofs.put_outputs.Statement.{statement}
 use Rattle.writer.proofs.put_outputs.Tie as tie
 
 abbrev Inv-loop : tie.InvT-loop
-Inv-loop out₀ at states layout pairs outputs cursor₀ o₀ out cursor o =
+Inv-loop out₀ at states first width code total pairs outputs cursor₀ o₀ out cursor o =
     (o ≤ outputs) × (length out ≡ length out₀)
-    × ((c : Tables) → Drawn c states layout → c .outputPairs ≡ pairs → c .outputs ≡ outputs → Reaches pairs (suc o) (cursor .row) × Put out₀ at (lines (outputsTo c o)) out (cursor .at))
+    × ((c : Tables) → Drawn c states (laid first width code total) → c .outputPairs ≡ pairs → c .outputs ≡ outputs → Reaches pairs (suc o) (cursor .row) × Fit out₀ at (lines (outputsTo c o)) out (cursor .at))
 
 abbrev μ-loop : tie.MeasureT-loop
-μ-loop out₀ at states layout pairs outputs cursor₀ o₀ out cursor o = outputs - o
+μ-loop out₀ at states first width code total pairs outputs cursor₀ o₀ out cursor o = outputs - o
 
 loop-holds : tie.Need-loop-holds Inv-loop μ-loop
 unfolding outputsTo flatMap table

@@ -1,14 +1,11 @@
 use mathlib.Core.Path.{_≡_}
 use Rattle.layout.specs.LaidLaws.{total-is}
-use Rattle.bits.specs.Sent.{Drawn}
+use Rattle.bits.specs.Sent.{laid, Drawn}
 use Rattle.writer.specs.TextLaws.{timer-count, text-put}
 use lib.ListN.{length}
 use borrow.Author.Needs.{needs}
 use Rattle.writer.proofs.put_text.Statement.{statement}
 use Rattle.writer.proofs.put_text.Tie as tie
-
-lay-out-requires : tie.Need-lay-out-requires
-lay-out-requires c κs = search needs
 
 put-head-requires : tie.Need-put-head-requires
 put-head-requires c κs = search needs
@@ -32,16 +29,15 @@ same-length : tie.Need-same-length
 same-length c = search needs
 
 returns : tie.Need-returns
-returns c c' g =
-    let a = c .before .before .before .before .before .before .before .before .before .before .before .before .before .before .before .before .before .before .before .before .before .before .before .before .before .before .before .before .before .before .args in
-    let y = c .before .before .before .before .before .before .before .before .before .before .before .before .before .before .before .before .before .before .before .before .before .before .before .before .lay-out in
+returns c c' g o =
+    let a = c .before .before .before .before .before .before .before .before .before .before .before .before .before .before .before .before .before .before .before .before .before .before .before .before .before .before .before .before .before .args in
     let t = g .lent in
-    let d : Drawn c' (a .states .now) (y .result) = record { states = t .states; laid = y .ensures c' (t .states); rules = g .rules } in
+    let d : Drawn c' (a .states .now) (laid (a .first .now) (a .width .now) (a .code .now) (a .total)) = record { states = t .states; laid = o; rules = g .rules } in
     text-put c' (a .outputs) (length (a .presets .now)) (g .outputs) (timer-count c' (a .presets .now) (t .presets))
     (c .before .before .before .before .before .before .before .before .before .before .before .before .before .before .before .before .before .before .before .before .before .before .put-head .ensures)
     (c .before .before .before .before .before .before .before .before .before .before .before .before .before .before .before .before .before .before .put-timers .ensures c' d (t .presets) (t .timerPairs))
     (c .before .before .before .before .before .before .before .before .before .before .before .before .before .before .put-moves .ensures c' d (t .moves))
-    (c .before .before .before .before .before .before .before .before .before .before .put-copies .ensures c' (g .rules) (total-is c' (y .result) (d .laid) (g .rules .size .fewStates)))
+    (c .before .before .before .before .before .before .before .before .before .before .put-copies .ensures c' (g .rules) (total-is c' _ o (g .rules .size .fewStates)))
     (c .before .before .before .before .before .before .put-outputs .ensures c' d (t .outputPairs) (g .outputs))
     (c .before .before .put-end .ensures)
 
@@ -49,7 +45,6 @@ pub put-text-spec : {M : Type 1} → statement M
 put-text-spec =
     tie.close
     (tie.spec
-    lay-out-requires
     put-head-requires
     put-timers-requires
     put-moves-requires

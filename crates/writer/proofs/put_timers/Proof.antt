@@ -5,8 +5,8 @@ use native.Mathlib.Numerals.{add-one}
 use native.Mathlib.Omega.{arith}
 use lib.ListN.{length}
 use Rattle.meaning.specs.Rows.{table}
-use Rattle.lines.specs.Put.{Put}
-use Rattle.bits.specs.Sent.{lines, Drawn}
+use Rattle.lines.specs.Fit.{Fit}
+use Rattle.bits.specs.Sent.{lines, laid, Drawn}
 use Rattle.bits.specs.SentLaws.{put-lines, put-nil}
 use Rattle.meaning.specs.Tables.{Tables, timerCount}
 use Rattle.meaning.specs.Programs.{timerRungOf}
@@ -19,12 +19,12 @@ use Rattle.writer.proofs.put_timers.Statement.{statement}
 use Rattle.writer.proofs.put_timers.Tie as tie
 
 abbrev Inv-loop : tie.InvT-loop
-Inv-loop out₀ at states layout presets pairs cursor₀ n₀ out cursor n =
+Inv-loop out₀ at states first width code total presets pairs cursor₀ n₀ out cursor n =
     (n ≤ length presets) × (length out ≡ length out₀)
-    × ((c : Tables) → Drawn c states layout → c .presets ≡ presets → c .timerPairs ≡ pairs → Reaches pairs (suc n) (cursor .row) × Put out₀ at (lines (timersTo c n)) out (cursor .at))
+    × ((c : Tables) → Drawn c states (laid first width code total) → c .presets ≡ presets → c .timerPairs ≡ pairs → Reaches pairs (suc n) (cursor .row) × Fit out₀ at (lines (timersTo c n)) out (cursor .at))
 
 abbrev μ-loop : tie.MeasureT-loop
-μ-loop out₀ at states layout presets pairs cursor₀ n₀ out cursor n = length presets - n
+μ-loop out₀ at states first width code total presets pairs cursor₀ n₀ out cursor n = length presets - n
 
 loop-holds : tie.Need-loop-holds Inv-loop μ-loop
 unfolding timersTo flatMap table

@@ -1,0 +1,47 @@
+use mathlib.Core.Path.{_≡_}
+use Rattle.meaning.specs.declared.Operand.the-variants.{Mx}
+use Rattle.bits.specs.Sent.{after}
+use Rattle.bits.specs.SentLaws.{one-put}
+use native.Mathlib.Omega.{arith}
+use Prim.Native.Nat.{_%_}
+use borrow.Author.Needs.{needs}
+use Rattle.bits.proofs.put_bit.Statement.{statement}
+use Rattle.bits.proofs.put_bit.Tie as tie
+use Rattle.bits.proofs.put_bit.Reads as reads
+use Rattle.bits.proofs.put_bit.Lts as lts
+use Rattle.bits.proofs.next.Reads as next-reads
+use Rattle.bits.proofs.put_asked.Reads as put-asked-reads
+use Rattle.lines.proofs.put_mx.Reads as put-mx-reads
+
+-- src/lib.rt:69:9
+put-asked-requires : tie.Need-put-asked-requires
+put-asked-requires c κs = search needs
+
+-- src/lib.rt:70:36
+cast-put-mx : tie.Need-cast-put-mx
+cast-put-mx c = search needs
+
+-- src/lib.rt:70:9
+put-mx-requires : tie.Need-put-mx-requires
+put-mx-requires c κs = search needs
+
+-- src/lib.rt:71:21
+next-requires : tie.Need-next-requires
+next-requires c κs = search needs
+
+-- src/lib.rt:65:1
+same-length : tie.Need-same-length
+same-length c = search needs
+
+-- src/lib.rt:65:1
+returns : tie.Need-returns
+unfolding after
+returns c h =
+    let a = c .before .before .before .before .before .before .before .before .before .before .args in
+    let e : a .n % 65536 ≡ a .n = omega arith in
+    record { put = one-put (a .spot .way) (a .wanted) (Mx (a .n)) (c .before .before .before .before .before .before .before .put-asked .ensures) (rw e at (c .before .before .before .put-mx .ensures)); way = c .next .ensures }
+
+pub put-bit-spec : {M : Type 1} → statement M
+put-bit-spec =
+    tie.close
+    (tie.spec put-asked-requires cast-put-mx put-mx-requires next-requires same-length returns)

@@ -1,0 +1,51 @@
+use mathlib.Core.List.{append-assoc}
+use Rattle.format.specs.Text.{line, operandText}
+use Rattle.meaning.specs.declared.Operand.the-variants.{TimerQ}
+use Rattle.bits.specs.Sent.{after}
+use Rattle.bits.specs.SentLaws.{one-put}
+use borrow.Author.Needs.{needs}
+use Rattle.bits.proofs.put_expired.Statement.{statement}
+use Rattle.bits.proofs.put_expired.Tie as tie
+use Rattle.bits.proofs.put_expired.Reads as reads
+use Rattle.bits.proofs.put_expired.Lts as lts
+use Rattle.bits.proofs.next.Reads as next-reads
+use Rattle.bits.proofs.put_asked.Reads as put-asked-reads
+use Rattle.lines.proofs.put_named.Reads as put-named-reads
+
+-- src/lib.rt:87:9
+put-asked-requires : tie.Need-put-asked-requires
+put-asked-requires c κs = search needs
+
+-- src/lib.rt:88:42
+slice-aggregate-put-named : tie.Need-slice-aggregate-put-named
+slice-aggregate-put-named c = search needs
+
+-- src/lib.rt:88:9
+put-named-requires : tie.Need-put-named-requires
+put-named-requires c κs = search needs
+
+-- src/lib.rt:89:21
+next-requires : tie.Need-next-requires
+next-requires c κs = search needs
+
+-- src/lib.rt:83:1
+same-length : tie.Need-same-length
+same-length c = search needs
+
+-- src/lib.rt:83:1
+returns : tie.Need-returns
+unfolding after line operandText
+returns c =
+    let a = c .before .before .before .before .before .before .before .before .before .before .before .args in
+    record { put = one-put (a .spot .way) (a .wanted) (TimerQ (a .n)) (c .before .before .before .before .before .before .before .before .put-asked .ensures) (simp append-assoc (c .before .before .before .put-named .ensures)); way = c .next .ensures }
+
+pub put-expired-spec : {M : Type 1} → statement M
+put-expired-spec =
+    tie.close
+    (tie.spec
+    put-asked-requires
+    slice-aggregate-put-named
+    put-named-requires
+    next-requires
+    same-length
+    returns)

@@ -1,0 +1,38 @@
+use Rattle.meaning.specs.declared.Operand.the-variants.{Ix}
+use Rattle.bits.specs.Sent.{after}
+use Rattle.bits.specs.SentLaws.{one-put}
+use borrow.Author.Needs.{needs}
+use Rattle.bits.proofs.put_input.Statement.{statement}
+use Rattle.bits.proofs.put_input.Tie as tie
+use Rattle.bits.proofs.put_input.Reads as reads
+use Rattle.bits.proofs.put_input.Lts as lts
+use Rattle.bits.proofs.next.Reads as next-reads
+use Rattle.bits.proofs.put_asked.Reads as put-asked-reads
+use Rattle.lines.proofs.put_ix.Reads as put-ix-reads
+
+-- src/lib.rt:78:9
+put-asked-requires : tie.Need-put-asked-requires
+put-asked-requires c κs = search needs
+
+-- src/lib.rt:79:9
+put-ix-requires : tie.Need-put-ix-requires
+put-ix-requires c κs = search needs
+
+-- src/lib.rt:80:21
+next-requires : tie.Need-next-requires
+next-requires c κs = search needs
+
+-- src/lib.rt:74:1
+same-length : tie.Need-same-length
+same-length c = search needs
+
+-- src/lib.rt:74:1
+returns : tie.Need-returns
+unfolding after
+returns c =
+    let a = c .before .before .before .before .before .before .before .before .before .before .args in
+    record { put = one-put (a .spot .way) (a .wanted) (Ix (a .n)) (c .before .before .before .before .before .before .before .put-asked .ensures) (c .before .before .before .put-ix .ensures); way = c .next .ensures }
+
+pub put-input-spec : {M : Type 1} → statement M
+put-input-spec =
+    tie.close (tie.spec put-asked-requires put-ix-requires next-requires same-length returns)

@@ -1,0 +1,101 @@
+use mathlib.Core.Path.{_≡_, refl, sym, ap, _∙_}
+use mathlib.Core.Logic.{_≢_}
+use Prim.Native.Nat.{ℕ, _+_, _-_, _≤_, _<_}
+use native.Mathlib.Numerals.{add-one}
+use native.Mathlib.Omega.{arith}
+use lib.ListN.{length, getD, length-set}
+use Rattle.meaning.specs.Tables.{Tables, superState}
+use Rattle.meaning.specs.Hierarchy.{up, depth}
+use Rattle.meaning.specs.TreeLaws.{shallow}
+use Rattle.bits.specs.Sent.{Rises, Risen}
+use Rattle.bits.specs.GroupLaws.{root-below, risen-depth, risen-path, risen-more}
+use Rattle.bits.proofs.rise.Statement.{statement}
+use Rattle.bits.proofs.rise.Tie as tie
+use Rattle.bits.proofs.rise.Reads as reads
+use Rattle.bits.proofs.rise.Lts as lts
+use Rattle.tables.proofs.super_state.Reads as super-state-reads
+
+abbrev Inv-loop : tie.InvT-loop
+Inv-loop states s path₀ t₀ k₀ path t k =
+    (k ≤ 9) × (length path ≡ 10) × ((c : Tables) → c .states ≡ states → Rises c s path k t)
+
+abbrev μ-loop : tie.MeasureT-loop
+μ-loop states s path₀ t₀ k₀ path t k = 9 - k
+
+-- src/lib.rt:156:5
+loop-holds : tie.Need-loop-holds Inv-loop μ-loop
+unfolding up
+loop-holds c = (omega arith, omega arith, λ c' e. (refl, λ j h. absurd (omega arith)))
+
+-- src/lib.rt:157:9
+mul-path : tie.Need-mul-path Inv-loop μ-loop
+mul-path c = omega arith
+
+-- src/lib.rt:157:9
+element-write-path : tie.Need-element-write-path Inv-loop μ-loop
+element-write-path c = omega arith
+
+-- src/lib.rt:159:13
+returns : tie.Need-returns Inv-loop μ-loop
+returns c = (
+  omega arith,
+  λ c' e R.
+      let b = c .before .before .loop in
+      let i = b .inv .2 c' e in
+      let s = c .before .before .before .before .args .s in
+      let z : up c' (b .k) s ≡ 0 = sym (i .0) ∙ c .if1 .taken in
+      record { deep = risen-depth c' R s (b .k) z (λ j h. i .1 j h .1); path = λ j h. risen-path c' s (b .path) (b .k) (b .t) (omega arith) i j (omega arith) },
+)
+
+-- src/lib.rt:161:9
+super-state-requires : tie.Need-super-state-requires Inv-loop μ-loop
+super-state-requires c κs = tt
+
+-- src/lib.rt:162:9
+add-k : tie.Need-add-k Inv-loop μ-loop
+add-k c = omega arith
+
+-- src/lib.rt:156:5
+loop-less : tie.Need-loop-less Inv-loop μ-loop
+loop-less c = omega arith
+
+-- src/lib.rt:156:5
+loop-again : tie.Need-loop-again Inv-loop μ-loop
+unfolding up
+loop-again c =
+    let b = c .before .before .before .loop in (
+      omega arith,
+      omega (arith, length-set (b .path) (b .k) (b .t)),
+      λ c' e.
+          let i = b .inv .2 c' e in
+          let s = c .before .before .before .before .before .args .s in (
+            rw (add-one (b .k)) (c .super-state .ensures c' e ∙ ap (superState c') (i .0)),
+            λ j h. (risen-path c' s (b .path) (b .k) (b .t) (omega arith) i j (omega arith), risen-more c' s (b .path) (b .k) (b .t) i (c .before .if1 .left) j (omega arith)),
+          ),
+    )
+
+-- src/lib.rt:151:1
+returns-2 : tie.Need-returns-2 Inv-loop μ-loop
+returns-2 c = (
+  omega arith,
+  λ c' e R.
+      let b = c .before .loop in
+      let s = c .before .before .before .args .s in
+      absurd (root-below c' R s (b .k) (omega (arith, shallow c' R s)) (λ j h. b .inv .2 c' e .1 j h .1)),
+)
+
+pub rise-spec : {M : Type 1} → statement M
+rise-spec =
+    tie.close
+    (tie.spec
+    Inv-loop
+    μ-loop
+    loop-holds
+    mul-path
+    element-write-path
+    returns
+    super-state-requires
+    add-k
+    loop-less
+    loop-again
+    returns-2)

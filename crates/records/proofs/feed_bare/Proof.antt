@@ -1,0 +1,98 @@
+use Rattle.records.proofs.feed_bare.Statement.{statement}
+use Rattle.records.proofs.feed_bare.Tie as tie
+use mathlib.Core.Path.{sym, _∙_}
+use Prim.Native.Nat.{_≤_, _-_}
+use native.Mathlib.Omega.{arith}
+use borrow.Author.Needs.{needs}
+use lib.ListN.{length}
+use Rattle.field.specs.Field.{top}
+use borrow.Author.Tests.{not-false}
+use Rattle.records.specs.Bare.{Went}
+use Rattle.records.specs.BareLaws.{turn-none, turn-then, turn-field}
+
+abbrev Inv-loop : tie.InvT-loop
+Inv-loop bytes from out₀ s₀ i₀ out s i = Went s₀ bytes out₀ from (record { next = i; reader = s }) out
+
+abbrev μ-loop : tie.MeasureT-loop
+μ-loop bytes from out₀ s₀ i₀ out s i = length bytes - i
+
+loop-holds : tie.Need-loop-holds Inv-loop μ-loop
+loop-holds c = record { on = omega arith; turn = turn-none _ _ _ _ }
+
+is-ready-requires : tie.Need-is-ready-requires Inv-loop μ-loop
+is-ready-requires c κs = search needs
+
+same-length : tie.Need-same-length Inv-loop μ-loop
+same-length c = c .before .before .before .loop .inv .turn .lengths
+
+returns : tie.Need-returns Inv-loop μ-loop
+returns c = c .before .before .before .loop .inv
+
+bare-requires : tie.Need-bare-requires Inv-loop μ-loop
+bare-requires c κs = search needs
+
+field-end-requires : tie.Need-field-end-requires Inv-loop μ-loop
+field-end-requires c κs = search needs
+
+same-length-2 : tie.Need-same-length-2 Inv-loop μ-loop
+same-length-2 c = c .before .before .before .before .before .before .loop .inv .turn .lengths
+
+returns-2 : tie.Need-returns-2 Inv-loop μ-loop
+returns-2 c = c .before .before .before .before .before .before .loop .inv
+
+store-requires : tie.Need-store-requires Inv-loop μ-loop
+store-requires c κs = search needs
+
+shared-slice-read-pass : tie.Need-shared-slice-read-pass Inv-loop μ-loop
+shared-slice-read-pass c = c .before .before .before .before .before .before .field-end .ensures (c .before .before .before .before .before .if2 .left) .1
+
+one-more-requires : tie.Need-one-more-requires Inv-loop μ-loop
+one-more-requires c κs = search needs
+
+pass-requires : tie.Need-pass-requires Inv-loop μ-loop
+pass-requires c κs = search needs
+
+add-i : tie.Need-add-i Inv-loop μ-loop
+add-i c = (let h = c .before .before .before .before .before .before .before .before .field-end .ensures (c .before .before .before .before .before .before .before .if2 .left) in omega arith)
+
+loop-less : tie.Need-loop-less Inv-loop μ-loop
+loop-less c = (let h = c .before .before .before .before .before .before .before .before .field-end .ensures (c .before .before .before .before .before .before .before .if2 .left) in omega arith)
+
+loop-again : tie.Need-loop-again Inv-loop μ-loop
+loop-again c = (let k = c .before .before .before .before .before .before .before .before .before .before .before .before .before in
+    let bytes = k .before .before .before .args .bytes .now in
+    let h = c .before .before .before .before .before .before .before .before .field-end .ensures (c .before .before .before .before .before .before .before .if2 .left) in
+    let r = sym (c .before .before .before .before .before .before .before .before .before .before .before .is-ready .ensures) ∙ not-false _ (c .before .before .before .before .before .before .before .before .before .before .if1 .left) in
+    let l : length (k .loop .out) ≤ top = search needs in
+    let t = turn-field (k .loop .s) bytes (k .loop .out) (k .loop .i) (c .before .before .before .before .before .before .before .before .before .bare .result) l r (c .before .before .before .before .before .before .before .before .before .bare .ensures (h .0) r) (c .before .before .before .before .before .before .before .before .field-end .result) (h .1) (h .2) in
+    record { on = omega arith; turn = rw (c .pass .ensures, c .before .one-more .ensures, c .before .before .before .before .before .store .ensures) (turn-then (k .loop .inv .turn) t) })
+
+same-length-3 : tie.Need-same-length-3 Inv-loop μ-loop
+same-length-3 c = c .before .loop .inv .turn .lengths
+
+returns-3 : tie.Need-returns-3 Inv-loop μ-loop
+returns-3 c = c .before .loop .inv
+
+pub feed-bare-spec : {M : Type 1} → statement M
+feed-bare-spec =
+    tie.close
+    (tie.spec
+    Inv-loop
+    μ-loop
+    loop-holds
+    is-ready-requires
+    same-length
+    returns
+    bare-requires
+    field-end-requires
+    same-length-2
+    returns-2
+    store-requires
+    shared-slice-read-pass
+    one-more-requires
+    pass-requires
+    add-i
+    loop-less
+    loop-again
+    same-length-3
+    returns-3)
