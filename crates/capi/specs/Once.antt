@@ -1,10 +1,13 @@
 -- No second answer of the calls for C: the library call has one outcome, and an outcome is told in one way.
-use mathlib.Core.Path.{_≡_, sym, _∙_, subst}
+use mathlib.Core.Path.{_≡_, sym, ap, _∙_, subst}
 use Prim.Native.Nat.{ℕ}
 use mathlib.Core.List.{List}
+use Rattle.meaning.specs.Once.{Once, two, three, four, five}
 use Rattle.meaning.specs.Tables.{Tables}
+use Rattle.meaning.specs.Check.{verdict}
 use Rattle.meaning.specs.Refusals.{numberOf, placeOf}
 use Rattle.meaning.specs.Scan.{Controller as Lent}
+use Rattle.meaning.specs.declared.Block.{Block}
 use Rattle.meaning.specs.declared.Verdict.the-variants as G
 use Rattle.lent.specs.declared.Ran.{Ran}
 use Rattle.lent.specs.declared.Ran.the-variants as R
@@ -35,7 +38,9 @@ use Rattle.capi.specs.declared.Answer.{Answer}
 use Rattle.capi.specs.declared.Step.{Step}
 use Rattle.capi.specs.declared.Scan.{Scan}
 use Rattle.capi.specs.declared.Controller.{Controller}
-use Rattle.capi.specs.Answers.{Told, one-answer, RanTold, StepTold, one-scan-told, WrittenTold, SizesGiven, SizesTell, TextTold, ReadTold, ProgramTold, ScanTold, one-scan-answer, OutcomeTold}
+use Rattle.capi.specs.Files.{KindRead, kind-read-same}
+use Rattle.il.specs.Scans.{holding}
+use Rattle.capi.specs.Answers.{Told, LengthTold, one-answer, RanTold, StepTold, one-scan-told, WrittenTold, SizesGiven, SizesTell, TextTold, ReadTold, ProgramTold, ScanTold, one-scan-answer, OutcomeTold}
 
 -- one outcome, told in one way
 same-told : {R A : Type 0} (T : R → A → Type 0) → ((r : R) (a b : A) → T r a → T r b → a ≡ b) → {r s : R} {a b : A} → r ≡ s → T r a → T s b → a ≡ b
@@ -85,36 +90,47 @@ sizes-told (S.Refused q) a b = same-sizes (numberOf q) (placeOf q) 0 0 a b
 
 -- ---- the calls
 
-pub one-run-for-c : {c : Tables} {xs l ls os l′ ls′ os′ l″ ls″ os″ : List ℕ} {a b : Answer}
-    → ((r : Ran) × ChartRan c xs l ls os r l′ ls′ os′ × RanTold r a) → ((r : Ran) × ChartRan c xs l ls os r l″ ls″ os″ × RanTold r b) → (a ≡ b) × (l′ ≡ l″) × (ls′ ≡ ls″) × (os′ ≡ os″)
-one-run-for-c {c} {xs} {l} {ls} {os} (r, p, t) (s, q, u) = let e = one-run c xs l ls os r s _ _ _ _ _ _ p q in (same-told RanTold ran-told (e .0) t u, e .1, e .2, e .3)
+pub splicetuck-check-once : (c : Tables) → Once (λ a. Told (verdict c) 0 a)
+splicetuck-check-once c = one-answer (verdict c) 0
 
-pub one-step-for-c : {c : Tables} {x : ℕ} {l l′ l″ : List ℕ} {a b : Step}
-    → ((r : Stepped) × ChartStepped c x l r l′ × StepTold r a) → ((r : Stepped) × ChartStepped c x l r l″ × StepTold r b) → (a ≡ b) × (l′ ≡ l″)
-one-step-for-c {c} {x} {l} (r, p, t) (s, q, u) = let e = one-step c x l r s _ _ p q in (same-told StepTold one-scan-told (e .0) t u, e .1)
+pub splicetuck-state-length-once : (c : Tables) → Once (λ a. LengthTold c a)
+splicetuck-state-length-once c x y p q = one-answer (verdict c) _ x y p q
 
-pub one-text-for-c : {c : Tables} {l m n : List ℕ} {a b : Answer} → ((r : Text) × ChartWritten c l r m × TextTold r a) → ((r : Text) × ChartWritten c l r n × TextTold r b) → (a ≡ b) × (m ≡ n)
-one-text-for-c {c} {l} (r, p, t) (s, q, u) = let e = one-text c l r s _ _ p q in (same-told TextTold text-told (e .0) t u, e .1)
+pub splicetuck-run-chart-once : (c : Tables) (xs l ls os : List ℕ)
+    → Once {A = Answer × List ℕ × List ℕ × List ℕ} (λ (a, l′, ls′, os′). (r : Ran) × ChartRan c xs l ls os r l′ ls′ os′ × RanTold r a)
+splicetuck-run-chart-once c xs l ls os x y (r, p, t) (s, q, u) =
+    let e = one-run c xs l ls os r s _ _ _ _ _ _ p q in four (same-told RanTold ran-told (e .0) t u, e .1, e .2, e .3)
 
-pub one-writing-for-c : {ws l m n : List ℕ} {a b : Answer} → ((r : Written) × WordsWritten ws l r m × WrittenTold r a) → ((r : Written) × WordsWritten ws l r n × WrittenTold r b) → (a ≡ b) × (m ≡ n)
-one-writing-for-c (r, p, t) (s, q, u) = let e = words-written-same p q in (same-told WrittenTold written-told (e .0) t u, e .1)
+pub splicetuck-step-chart-once : (c : Tables) (w : ℕ) (l : List ℕ) → Once {A = Step × List ℕ} (λ (a, l′). (r : Stepped) × ChartStepped c w l r l′ × StepTold r a)
+splicetuck-step-chart-once c w l x y (r, p, t) (s, q, u) = let e = one-step c w l r s _ _ p q in two (same-told StepTold one-scan-told (e .0) t u, e .1)
 
-pub one-reading-for-c : {ts l m n : List ℕ} {a b : Answer} → ((r : ReadAnswer) × TextRead ts l r m × ReadTold r a) → ((r : ReadAnswer) × TextRead ts l r n × ReadTold r b) → (a ≡ b) × (m ≡ n)
-one-reading-for-c (r, p, t) (s, q, u) = let e = text-read-once p q in (same-told ReadTold read-told (e .0) t u, e .1)
+pub splicetuck-write-once : (c : Tables) (l : List ℕ) → Once {A = Answer × List ℕ} (λ (a, m). (r : Text) × ChartWritten c l r m × TextTold r a)
+splicetuck-write-once c l x y (r, p, t) (s, q, u) = let e = one-text c l r s _ _ p q in two (same-told TextTold text-told (e .0) t u, e .1)
 
-pub one-size-for-c : {ws : List ℕ} {a b : Controller} → ((r : Sizes) × SizesTold ws r × SizesTell r a) → ((r : Sizes) × SizesTold ws r × SizesTell r b) → a ≡ b
-one-size-for-c (r, p, t) (s, q, u) = same-told SizesTell sizes-told (sizes-told-same p q) t u
+pub splicetuck-write-words-once : (ws l : List ℕ) → Once {A = Answer × List ℕ} (λ (a, m). (r : Written) × WordsWritten ws l r m × WrittenTold r a)
+splicetuck-write-words-once ws l x y (r, p, t) (s, q, u) = let e = words-written-same p q in two (same-told WrittenTold written-told (e .0) t u, e .1)
 
-pub one-program-for-c : {d : ℕ} {ws xs : List ℕ} {k k′ j : Lent} {l l′ m : List ℕ} {a b : Answer}
-    → ((r : ProgramAnswer) × ProgramRan d ws xs k l r k′ l′ × ProgramTold r a) → ((r : ProgramAnswer) × ProgramRan d ws xs k l r j m × ProgramTold r b) → (a ≡ b) × (k′ ≡ j) × (l′ ≡ m)
-one-program-for-c (r, p, t) (s, q, u) = let e = one-program-run p q in (same-told ProgramTold program-told (e .0) t u, e .1, e .2)
+pub splicetuck-read-once : (ts l : List ℕ) → Once {A = Answer × List ℕ} (λ (a, m). (r : ReadAnswer) × TextRead ts l r m × ReadTold r a)
+splicetuck-read-once ts l x y (r, p, t) (s, q, u) = let e = text-read-once p q in two (same-told ReadTold read-told (e .0) t u, e .1)
 
-pub one-scan-for-c : {d : ℕ} {ws : List ℕ} {x : ℕ} {k k′ j : Lent} {a b : Scan}
-    → ((r : ScanAnswer) × ProgramScanned d ws x k r k′ × ScanTold r a) → ((r : ScanAnswer) × ProgramScanned d ws x k r j × ScanTold r b) → (a ≡ b) × (k′ ≡ j)
-one-scan-for-c (r, p, t) (s, q, u) = let e = one-program-scan p q in (same-told ScanTold scan-told (e .0) t u, e .1)
+pub splicetuck-read-records-once : (kind : ℕ) (bs out : List ℕ) → Once {A = Answer × List ℕ} (λ (a, m). KindRead kind bs out a m)
+splicetuck-read-records-once kind bs out x y p q = two (kind-read-same p q)
 
-pub one-whole-for-c : {c : Tables} {xs l ws ls os l′ ws′ ls′ os′ l″ ws″ ls″ os″ : List ℕ} {a b : Answer}
-    → ((r : Outcome) × WrittenRan c xs l ws ls os r l′ ws′ ls′ os′ × OutcomeTold r a) → ((r : Outcome) × WrittenRan c xs l ws ls os r l″ ws″ ls″ os″ × OutcomeTold r b)
-    → (a ≡ b) × (l′ ≡ l″) × (ws′ ≡ ws″) × (ls′ ≡ ls″) × (os′ ≡ os″)
-one-whole-for-c {c} {xs} {l} {ws} {ls} {os} (r, p, t) (s, q, u) =
-    let e = one-written-run c xs l ws ls os r s _ _ _ _ _ _ _ _ p q in (same-told OutcomeTold outcome-told (e .0) t u, e .1, e .2, e .3, e .4)
+pub splicetuck-sizes-of-once : (ws : List ℕ) → Once (λ a. (r : Sizes) × SizesTold ws r × SizesTell r a)
+splicetuck-sizes-of-once ws x y (r, p, t) (s, q, u) = same-told SizesTell sizes-told (sizes-told-same p q) t u
+
+pub splicetuck-run-program-once : (step : ℕ) (ws fs : List ℕ) (bs : List Block) (xs l : List ℕ)
+    → Once {A = Answer × List ℕ × List Block × List ℕ} (λ (a, fs′, bs′, l′). (r : ProgramAnswer) × ProgramRan step ws xs (holding fs bs) l r (holding fs′ bs′) l′ × ProgramTold r a)
+splicetuck-run-program-once step ws fs bs xs l x y (r, p, t) (s, q, u) =
+    let e = one-program-run p q in
+    four (same-told ProgramTold program-told (e .0) t u, ap (λ (k : Lent). k .flipFlops) (e .1), ap (λ (k : Lent). k .blocks) (e .1), e .2)
+
+pub splicetuck-scan-program-once : (step : ℕ) (ws fs : List ℕ) (bs : List Block) (w : ℕ)
+    → Once {A = Scan × List ℕ × List Block} (λ (a, fs′, bs′). (r : ScanAnswer) × ProgramScanned step ws w (holding fs bs) r (holding fs′ bs′) × ScanTold r a)
+splicetuck-scan-program-once step ws fs bs w x y (r, p, t) (s, q, u) =
+    let e = one-program-scan p q in three (same-told ScanTold scan-told (e .0) t u, ap (λ (k : Lent). k .flipFlops) (e .1), ap (λ (k : Lent). k .blocks) (e .1))
+
+pub splicetuck-run-written-once : (c : Tables) (xs l ws ls os : List ℕ)
+    → Once {A = Answer × List ℕ × List ℕ × List ℕ × List ℕ} (λ (a, l′, ws′, ls′, os′). (r : Outcome) × WrittenRan c xs l ws ls os r l′ ws′ ls′ os′ × OutcomeTold r a)
+splicetuck-run-written-once c xs l ws ls os x y (r, p, t) (s, q, u) =
+    let e = one-written-run c xs l ws ls os r s _ _ _ _ _ _ _ _ p q in five (same-told OutcomeTold outcome-told (e .0) t u, e .1, e .2, e .3, e .4)
