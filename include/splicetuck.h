@@ -3,7 +3,8 @@
  * text, and tables from files of records.
  *
  * Of every call:
- * - It can be made with any content of the lent slices; what is not right is
+ * - It can be made with any content of the lent slices (only `on`, `q` and
+ *   `last` of a block must be 0 or 1, as C's bool is); what is not right is
  *   refused by a number of document 01, and the refusals of a call are listed
  *   below in the order in which they are looked for. The first one found is
  *   the answer.

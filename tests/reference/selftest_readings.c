@@ -1,5 +1,5 @@
 /* The settled readings of 01, one by one, as far as the other parts of the
- * self-test do not show them. The numbers are those of the list of readings. */
+ * self-test do not show them. The numbers are those of docs/DECISIONS.md. */
 #include "selftest.h"
 
 #include <stdlib.h>
@@ -37,7 +37,7 @@ static void expect_run(struct draft *d, const uint64_t *inputs,
     expect_run((d), (inputs), (leaves), sizeof(leaves) / sizeof(leaves)[0], \
                __FILE__, __LINE__)
 
-/* Reading 4, 6 and 21: the root alone. */
+/* Reading 4, 6 and 22: the root alone. */
 static void test_root_alone(void)
 {
     struct draft *d = draft_new(1, 1, 1);
@@ -93,7 +93,7 @@ static struct draft *narrow(void)
     return d;
 }
 
-/* 10, 16 and 17: a group of one sub-state has no line. */
+/* 10, 17 and 18: a group of one sub-state has no line. */
 static void test_narrow_groups(void)
 {
     struct draft *d = narrow();
@@ -265,7 +265,7 @@ static void test_history_to_own(void)
     free(d);
 }
 
-/* 14: a value can pass its preset; the block's ET cannot. 24: bits above the
+/* 14: a value can pass its preset; the block's ET cannot. 25: bits above the
  * input count do nothing to a chart. */
 static void test_stored_values(void)
 {
@@ -296,7 +296,7 @@ static uint32_t word(uint32_t operator, uint32_t operand)
     return operator * UINT32_C(134217728) + operand;
 }
 
-/* 23: "Reading LD a, OR( LD b ), AND c as a or (b and c)" is a slip. */
+/* 24: "Reading LD a, OR( LD b ), AND c as a or (b and c)" is a slip. */
 static void test_brackets(void)
 {
     const uint32_t words[] = {
@@ -312,7 +312,7 @@ static void test_brackets(void)
     }
 }
 
-/* 24: the last ST decides; S and R act only on a true result; all 64 inputs. */
+/* 25: the last ST decides; S and R act only on a true result; all 64 inputs. */
 static void test_stores(void)
 {
     const uint32_t words[] = {
@@ -329,7 +329,7 @@ static void test_stores(void)
     EXPECT(on == 0 && bytes[0] == 0 && bytes[255] == 1);
 }
 
-/* 25: Q matters only to a body that tests it before the block's CAL. */
+/* 26: Q matters only to a body that tests it before the block's CAL. */
 static void test_block_q(void)
 {
     const uint32_t words[] = {

@@ -3,7 +3,7 @@ ghost use mathlib.Core.Path.{_≡_};
 ghost use mathlib.Core.Bool.{true, false, cond};
 ghost use Rattle.field.specs.Field.{grown, begun, numberAfter, phaseAfter, encoded, decimalOf, returned, untouched, begins, failed, signedOf};
 
-// Where the reader stands in its field. Number and Closed hold the sign and the size; the first bool says that a quote is open.
+// Where the reader stands in its field. Number and Closed hold the sign and the size; in Minus and Number the first bool says that a quote is open.
 pub enum Phase {
     // nothing of the record has come
     Fresh,

@@ -14,8 +14,8 @@ use Rattle.meaning.specs.Scan.{outputTrace, scannedAll, cleared}
 use Rattle.meaning.specs.Written.{program}
 use Rattle.meaning.specs.Stands.{shownLeaf}
 use Rattle.meaning.specs.ProgramLaws.{program-fits}
-use Rattle.meaning.specs.Demands.{DoesTheChart, RunsAsRead}
-use Rattle.meaning.specs.DemandLaws.{does-the-chart, runs-as-read, lastLeaf, outputs-read, leaf-read}
+use Rattle.meaning.specs.Demands.{lastLeaf, DoesTheChart, RunsAsRead}
+use Rattle.meaning.specs.DemandLaws.{does-the-chart, runs-as-read, outputs-read, leaf-read}
 use Rattle.meaning.specs.declared.Operator.{Operator}
 use Rattle.format.specs.Words.{word, words}
 use Rattle.format.specs.WordLaws.{words-same}

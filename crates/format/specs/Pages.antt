@@ -1,4 +1,4 @@
--- The reader of lines ends with exactly the lines of the programs that the grammar makes.
+-- A reader of lines: which line may come after those before it, and where a text may end.
 use mathlib.Core.Path.{_≡_, refl, sym, ap, _∙_}
 use mathlib.Core.Logic.{_⊎_, inl, inr}
 use Prim.Native.Nat.{ℕ, suc, _≤_}

@@ -20,7 +20,7 @@ use Rattle.meaning.specs.ProgramLaws.{program-fits, program-bytes, progr
 use Rattle.meaning.specs.StandsLaws.{shown-leaf, cleared-stands}
 use Rattle.meaning.specs.Simulate.{Holds, Simulated, simulates, valid-holds, holds-again, valid-again}
 use Rattle.meaning.specs.HeldLaws.{controllerFor, controller-stands, controller-valid}
-use Rattle.meaning.specs.Demands.{shown, programTrace, OneStep, DoesTheChart, RunsAsRead}
+use Rattle.meaning.specs.Demands.{shown, programTrace, lastLeaf, OneStep, DoesTheChart, RunsAsRead}
 
 showing : ℕ → ℕ → Seen
 showing l o = record { leaf = l; outputs = o }
@@ -85,11 +85,6 @@ pub trace-outputs : (c : Tables) (xs : List ℕ) (k : Controller) → outputTrac
 unfolding programTrace shown outputTrace
 trace-outputs c [] k = refl
 trace-outputs c (x ∷ xs) k = ap (λ l. outputWord (c .step) x (instructions (program c)) k ∷ l) (trace-outputs c xs _)
-
--- the last leaf of what is seen, or l
-unfoldable pub lastLeaf : ℕ → List Seen → ℕ
-lastLeaf l [] = l
-lastLeaf l (e ∷ es) = lastLeaf (e .leaf) es
 
 -- the last leaf of a trace is decoded from what the last scan leaves
 pub trace-leaf : (c : Tables) (xs : List ℕ) (k : Controller) → shownLeaf c ((scannedAll (c .step) (instructions (program c)) k xs) .flipFlops) ≡ lastLeaf (shownLeaf c (k .flipFlops)) (programTrace c (program c) k xs)

@@ -20,6 +20,11 @@ unfoldable pub programTrace : Tables → Program → Controller → List ℕ →
 programTrace c p k [] = []
 programTrace c p k (x ∷ xs) = shown c p x k ∷ programTrace c p (scanned (c .step) x (instructions p) k) xs
 
+-- the last leaf of what is seen, or l
+unfoldable pub lastLeaf : ℕ → List Seen → ℕ
+lastLeaf l [] = l
+lastLeaf l (e ∷ es) = lastLeaf (e .leaf) es
+
 -- one scan of the program, under the input word x, is one step of the machine: the run accepts what it leaves, that stands for the machine's next state, and leaf and outputs are the machine's
 pub record OneStep (c : Tables) (p : Program) (k : Controller) (s : State) (x : ℕ) : Type 0 where
   pub valid : ValidController p (scanned (c .step) x (instructions p) k)

@@ -16,7 +16,7 @@ use Rattle.meaning.specs.Literals.{inputOn}
 use Rattle.meaning.specs.Rules.{Rules}
 use Rattle.meaning.specs.Machine.{State, remembered, timerValue, follow, activeLeaf, chosen, guide, moved, expired, timed, start, setting, memoryAfter, step, seenAt, seen, trace, after, Valid}
 use Rattle.meaning.specs.FollowLaws.{super-known, initial-leads, follow-same, remembers-path, guide-leads}
-use Rattle.meaning.specs.MachineLaws.{Sound, trace-append, after-append, remembered-table, timer-table, valid-sound, table-leaf, moved-leaf, start-valid, step-valid, step-stays}
+use Rattle.meaning.specs.MachineLaws.{Sound, remembered-table, timer-table, valid-sound, table-leaf, moved-leaf, start-valid, step-valid, step-stays}
 use Rattle.meaning.specs.History.{lastActive, lastRan, expiredBy, nextLeaf, firstLeaf, leavesFrom, reading}
 
 -- ---- scan steps
@@ -148,8 +148,3 @@ module _ (c : Tables) (R : Rules c) where
 pub run-is-reading : (c : Tables) → Rules c → (xs : List ℕ) → trace c (start c) xs ≡ reading c xs
 unfolding reading start firstLeaf
 run-is-reading c R xs = reads c R xs (start c) [] (start-reads c R) ∙ ap (λ l. map (seenAt c) (leavesFrom c l [] xs)) (table-leaf c R (initial c) (initial-leads c R))
-
--- what is seen after a scan is the last of the reading
-pub seen-is-last : (c : Tables) → Rules c → (xs : List ℕ) (x : ℕ) → reading c (xs ++ (x ∷ [])) ≡ reading c xs ++ (seen c (after c (start c) (xs ++ (x ∷ []))) ∷ [])
-unfolding trace after
-seen-is-last c R xs x = rw (← run-is-reading c R (xs ++ (x ∷ [])), ← run-is-reading c R xs, after-append) (trace-append c (start c) xs (x ∷ []))

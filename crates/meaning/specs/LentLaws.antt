@@ -285,7 +285,3 @@ module _ (c : Tables) (R : Rules c) where
   -- and stands for the start
   pub zero-start : stateOf c (replicate (lentLength c) 0) ≡ start c
   zero-start = rw start-lent at (valid-back (start c) (start-valid c R))
-
-  -- a step over lent state keeps it valid
-  pub step-lent : (x : ℕ) (l : List ℕ) → statePasses c l ≡ true → statePasses c (lentOf c (step c x (stateOf c l))) ≡ true
-  step-lent x l e = valid-lent (step c x (stateOf c l)) (step-valid c R x (stateOf c l) (lent-valid l e))

@@ -1,4 +1,4 @@
--- Document 01's refusals: the number and the place of each, which every contract uses.
+-- Document 01's refusals: the number and the place of each.
 use Prim.Native.Nat.{ℕ}
 use Rattle.meaning.specs.declared.Refusal.{Refusal}
 use Rattle.meaning.specs.declared.Refusal.the-variants as R

@@ -1,4 +1,4 @@
--- Each test of Check.antt says what its rule of Rules.antt says in words, for any tables.
+-- Each test of Check.antt says what its rule of Rules.antt says in words: for any tables, OVERLAP where LITERAL passes.
 use mathlib.Core.Path.{_≡_, refl, sym, ap, _∙_}
 use mathlib.Core.Logic.{_≢_, _⊎_, inl, inr, _↔_}
 use Prim.Native.Nat.{ℕ, _-_, _≤_, _<_}

@@ -1,4 +1,4 @@
--- The rules that a chart's tables must keep, one record a rule, in document 01's words. The tests of Check.antt are proved equal to them, each where the checks before it pass.
+-- The rules that a chart's tables must keep, one record a rule, in document 01's words. The tests of Check.antt are proved equal to them in RuleLaws.antt: for any tables, OVERLAP where LITERAL passes.
 use mathlib.Core.Path.{_≡_}
 use mathlib.Core.Logic.{_≢_, _⊎_}
 use Prim.Native.Nat.{ℕ, suc, _%_, _≤_, _<_}

@@ -12,7 +12,7 @@ use Rattle.meaning.specs.History.{firstLeaf, reading}
 use Rattle.meaning.specs.Written.{program}
 use Rattle.meaning.specs.Stands.{shownLeaf}
 use Rattle.meaning.specs.ProgramLaws.{program-fits}
-use Rattle.meaning.specs.DemandLaws.{lastLeaf}
+use Rattle.meaning.specs.Demands.{lastLeaf}
 use Rattle.meaning.specs.Literals.{between}
 use Rattle.meaning.specs.Programs.{Program, instructions, fits}
 use Rattle.meaning.specs.Scan.{Controller, ValidController, cleared, scanned, outputWord, scannedAll, outputTrace}

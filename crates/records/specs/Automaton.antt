@@ -1,4 +1,4 @@
--- What a reader of records does with a byte, with many, and with the end of the file. That this is what document 01 says of the whole file is in Reading.antt.
+-- What a reader of records does with a byte, with many, and with the end of the file. That this is what document 01 says of the whole file is in crate reading.
 use mathlib.Core.Path.{_≡_}
 use Prim.Native.Nat.{ℕ, _+_, _-_}
 use mathlib.Core.Bool.{Bool, true, false, _&&_, _||_, cond}

@@ -269,7 +269,7 @@ fn put_stores(
     next
 }
 
-// Whether such a move sets no flip-flop: its stores are measured over a slice that holds none.
+// Whether such a move sets no flip-flop: its stores are measured over a slice of one byte.
 fn sets_none(
     states: &[u16],
     first: &[u16; 256],

@@ -103,7 +103,7 @@ fn print_room(length: usize) {
 fn print_place(r: Refusal, a: Answers) {
     match r {
         Refusal::Size => say(
-            b": a table is empty or has too many rows, or the frame is beyond its limits",
+            b": there is no state, a table has too many rows, or the frame is beyond its limits",
         ),
         Refusal::Hierarchy(p) => print_record(b"states.csv", p),
         Refusal::Initial(p) => print_record(b"states.csv", p),

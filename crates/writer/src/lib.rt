@@ -169,7 +169,7 @@ fn put_outputs(
     cursor.at
 }
 
-// "PROGRAM CHART; ..; the rungs; END_PROGRAM", from the front, as far as the slice reaches.
+// "PROGRAM CHART; ..; the rungs; END_PROGRAM", from the front, where the slice holds them.
 fn put_text(
     out: &mut [u8],
     outputs: u32,
