@@ -23,4 +23,3 @@ pub mod TextLaws
 pub mod TextPlaces
 pub mod Bytes
 pub mod TextReader
-pub mod ReaderCases

@@ -133,26 +133,6 @@ word-place l k = (
   },
 )
 
--- ---- the place, counted in one pass
-
--- how many words the reader takes before it refuses
-unfoldable pub survived : Reading → List ℕ → ℕ
-survived s [] = 0
-survived s (n ∷ l) = cond (alive (stepWord s (decoded n))) (suc (survived (stepWord s (decoded n)) l)) 0
-
-pub survived-survives : (l : List ℕ) (s : Reading) → alive s ≡ true → Survives s l (survived s l)
-unfolding survived afterWords
-survived-survives [] s a = record { within = omega arith; before = a; after = λ h. absurd (omega arith) }
-survived-survives (n ∷ l) s a = elim (which (alive (stepWord s (decoded n)))) [
-  | inl e ↦ (let r = survived-survives l (stepWord s (decoded n)) e in rw (survived, e) (record { within = omega (arith, r .within); before = r .before; after = λ h. r .after (omega arith) }))
-  | inr e ↦ rw (survived, e) (record { within = omega arith; before = a; after = λ h. e })
-]
-
--- a list that is not accepted goes wrong where the reader refuses, or at its end
-pub survived-place : (l : List ℕ) → mayEnd (afterWords beginWords l) ≡ false → WordPlace l (survived beginWords l)
-unfolding begin alive
-survived-place l e = word-place l (survived beginWords l) .1 (record { unended = e; survives = survived-survives l beginWords refl })
-
 -- ---- word by word
 
 -- one word more
