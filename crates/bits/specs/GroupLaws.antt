@@ -19,9 +19,10 @@ use Rattle.meaning.specs.Written.{bitsFrom, groupBits}
 use Rattle.layout.specs.Laid.{LaidOut}
 use Rattle.layout.specs.LaidLaws.{first-at, width-at, code-at, total-is}
 use Rattle.layout.specs.declared.Layout.{Layout}
-use Rattle.bits.specs.declared.Way.{Way}
-use Rattle.bits.specs.declared.Way.the-variants.{First, More, Store}
-use Rattle.bits.specs.Sent.{bitAt, baseOf, Rises}
+use Rattle.ways.specs.declared.Way.{Way}
+use Rattle.ways.specs.declared.Way.the-variants.{First, More, Store}
+use Rattle.bits.specs.Sent.{bitAt, Rises}
+use Rattle.ways.specs.Ways.{baseOf}
 
 base-most : (total : ℕ) (y : Way) → baseOf total y ≤ total
 base-most total First = omega arith

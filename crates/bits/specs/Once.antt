@@ -9,12 +9,12 @@ use Rattle.meaning.specs.Hierarchy.{depth}
 use Rattle.meaning.specs.Rules.{SubState, Rules}
 use Rattle.meaning.specs.Programs.{Test}
 use Rattle.meaning.specs.Written.{groupBits, pathBits, literalTests}
-use Rattle.meaning.specs.declared.Operand.{Operand}
 use Rattle.layout.specs.Laid.{LaidOut}
 use Rattle.lines.specs.Fit.{Fit}
 use Rattle.lines.specs.Once.{Room, one-fit}
 use Rattle.bits.specs.declared.Spot.{Spot}
-use Rattle.bits.specs.Sent.{lines, operatorsAt, Sent, orTrue, bitAt, baseOf, laid, Drawn}
+use Rattle.bits.specs.Sent.{lines, operatorsAt, Sent, orTrue, bitAt, laid, Drawn}
+use Rattle.ways.specs.Ways.{baseOf}
 
 -- the lines of the tests fit
 abbrev Fits : List ℕ → Spot → List Test → Type 0
@@ -23,9 +23,6 @@ Fits l s ts = Room l (s .at) (lines (operatorsAt (s .way) ts))
 -- whatever is sent
 one-sent : (l : List ℕ) (s : Spot) (ts : List Test) → Fits l s ts → Once {A = Spot × List ℕ} (λ (r, m). Sent l s ts m r)
 one-sent l s ts h x y p q = λ i. (record { at = (p .put .next ∙ sym (q .put .next)) i; way = (p .way ∙ sym (q .way)) i }, (p .put .list h ∙ sym (q .put .list h)) i)
-
-pub flip-flop-once : (n : ℕ) → n < 65536 → Once (λ r. n < 65536 → r ≡ Operand.Mx n)
-flip-flop-once n h x y p q = p h ∙ sym (q h)
 
 pub put-group-once : (c : Tables) (l : List ℕ) (s : Spot) (first wide code : List ℕ) (total a b : ℕ) → LaidOut c (laid first wide code total) → Rules c → SubState c a b
     → Fits l s (groupBits c (bitAt (baseOf total (s .way))) a b)

@@ -17,12 +17,13 @@ use Rattle.meaning.specs.declared.Operand.{Operand}
 use Rattle.meaning.specs.declared.Operand.the-variants.{Mx, True}
 use Rattle.meaning.specs.declared.Operator.{Operator}
 use Rattle.meaning.specs.declared.Operator.the-variants.{Ld, S, R}
-use Rattle.format.specs.Text.{bytes, line, operatorText}
+use Rattle.format.specs.Text.{line, operatorText}
 use Rattle.layout.specs.Laid.{LaidOut}
 use Rattle.layout.specs.declared.Layout.{Layout}
 use Rattle.lines.specs.Fit.{Fit}
-use Rattle.bits.specs.declared.Way.{Way}
-use Rattle.bits.specs.declared.Way.the-variants.{First, More, Store}
+use Rattle.ways.specs.declared.Way.{Way}
+use Rattle.ways.specs.declared.Way.the-variants.{First, More, Store}
+use Rattle.ways.specs.Ways.{next}
 use Rattle.bits.specs.declared.Spot.{Spot}
 
 -- the lines of some instructions
@@ -37,17 +38,6 @@ abbrev pub operatorAt : Way → Test → Operator
 operatorAt First t = loadOf t
 operatorAt More t = andOf t
 operatorAt Store t = cond (t .wanted) (S (t .operand)) (R (t .operand))
-
--- its operator, up to the operand
-abbrev pub asked : Way → Bool → List ℕ
-asked First w = cond w (bytes "LD ") (bytes "LDN ")
-asked More w = cond w (bytes "AND ") (bytes "ANDN ")
-asked Store w = cond w (bytes "S ") (bytes "R ")
-
-abbrev pub next : Way → Way
-next First = More
-next More = More
-next Store = Store
 
 unfoldable pub operatorsAt : Way → List Test → List Operator
 operatorsAt y [] = []
@@ -70,12 +60,6 @@ orTrue Store = []
 -- flip-flop b, of those that start at a base
 abbrev pub bitAt : ℕ → Bool → ℕ → Test
 bitAt base w b = test w (Mx (base + b))
-
--- a test is on a flip-flop, a store on its working copy
-abbrev pub baseOf : ℕ → Way → ℕ
-baseOf total First = 0
-baseOf total More = 0
-baseOf total Store = total
 
 -- the tests of the first n literal places of move i
 unfoldable pub literalsTo : Tables → ℕ → ℕ → List Test

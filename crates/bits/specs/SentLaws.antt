@@ -21,10 +21,11 @@ use Rattle.meaning.specs.declared.Operand.{Operand}
 use Rattle.meaning.specs.declared.Operator.{Operator}
 use Rattle.format.specs.Text.{line, operandText, operatorText}
 use Rattle.lines.specs.Fit.{Fit, fit-fit, fit-none}
-use Rattle.bits.specs.declared.Way.{Way}
-use Rattle.bits.specs.declared.Way.the-variants.{First, More, Store}
+use Rattle.ways.specs.declared.Way.{Way}
+use Rattle.ways.specs.declared.Way.the-variants.{First, More, Store}
 use Rattle.bits.specs.declared.Spot.{Spot}
-use Rattle.bits.specs.Sent.{lines, test, operatorAt, asked, next, operatorsAt, after, Sent, orTrue, bitAt, baseOf, literalsTo}
+use Rattle.bits.specs.Sent.{lines, test, operatorAt, operatorsAt, after, Sent, orTrue, bitAt, literalsTo}
+use Rattle.ways.specs.Ways.{asked, next, baseOf}
 
 -- ---- lines
 

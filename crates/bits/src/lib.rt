@@ -1,8 +1,8 @@
 // The lines of code bits and literals, one after the other: tests, or stores on the working copies.
 use meaning::Kind;
 use meaning::Operand;
-use meaning::Operator;
 use tables::Chart;
+use ways::Way;
 ghost use mathlib.Core.Path.{_≡_};
 ghost use mathlib.Core.List.{[], _∷_};
 ghost use Prim.Native.Nat.{_+_, _<_, _≤_};
@@ -14,14 +14,8 @@ ghost use Rattle.meaning.specs.Written.{bitsFrom, groupBits, pathBits, kindTest
 ghost use Rattle.meaning.specs.declared.Operand.{Operand};
 ghost use Rattle.layout.specs.Laid.{LaidOut};
 ghost use Rattle.lines.specs.Fit.{Fit};
-ghost use Rattle.bits.specs.Sent.{lines, test, asked, next, Sent, orTrue, bitAt, baseOf, laid, Drawn, Risen};
-
-// How the next test is written: "LD or LDN, then AND or ANDN"; or as a store, S or R.
-pub enum Way {
-    First,
-    More,
-    Store,
-}
+ghost use Rattle.bits.specs.Sent.{lines, test, Sent, orTrue, bitAt, laid, Drawn, Risen};
+ghost use Rattle.ways.specs.Ways.{baseOf};
 
 // A place in the text, and how the next test is written there.
 pub struct Spot {
@@ -29,72 +23,41 @@ pub struct Spot {
     pub way: Way,
 }
 
-// The operator, up to its operand.
-fn put_asked(out: &mut [u8], at: usize, way: Way, wanted: bool) -> usize
-    ensures { λ r. ⌜ Fit (now (out .entry)) at (asked way wanted) (now (out .exit)) r ⌝ }
-{
-    match way {
-        Way::First => if wanted {
-            lines::put_part(out, at, b"LD ")
-        } else {
-            lines::put_part(out, at, b"LDN ")
-        },
-        Way::More => if wanted {
-            lines::put_part(out, at, b"AND ")
-        } else {
-            lines::put_part(out, at, b"ANDN ")
-        },
-        Way::Store => if wanted {
-            lines::put_part(out, at, b"S ")
-        } else {
-            lines::put_part(out, at, b"R ")
-        },
-    }
-}
-
-fn next(way: Way) -> Way
-    ensures { λ r. ⌜ r ≡ next way ⌝ }
-{
-    match way {
-        Way::First => Way::More,
-        Way::More => Way::More,
-        Way::Store => Way::Store,
-    }
-}
-
 // One test or store of %MXn. No chart has numbers that 16 bits do not hold.
 fn put_bit(out: &mut [u8], spot: Spot, wanted: bool, n: u64) -> Spot
     ensures { λ r. ⌜ (n < 65536 → Sent (now (out .entry)) spot (test wanted (Operand.Mx n) ∷ []) (now (out .exit)) r) ⌝ }
 {
     let way = spot.way;
-    let p = put_asked(out, spot.at, way, wanted);
-    let at = lines::put_mx(out, p, (n % 65536) as u16);
-    Spot { at, way: next(way) }
+    let p = ways::put_asked(out, spot.at, way, wanted);
+    let at = spelling::put_mx(out, p, (n % 65536) as u16);
+    Spot {
+        at,
+        way: ways::next(way),
+    }
 }
 
 fn put_input(out: &mut [u8], spot: Spot, wanted: bool, n: u16) -> Spot
     ensures { λ r. ⌜ Sent (now (out .entry)) spot (test wanted (Operand.Ix n) ∷ []) (now (out .exit)) r ⌝ }
 {
     let way = spot.way;
-    let p = put_asked(out, spot.at, way, wanted);
-    let at = lines::put_ix(out, p, n);
-    Spot { at, way: next(way) }
+    let p = ways::put_asked(out, spot.at, way, wanted);
+    let at = spelling::put_ix(out, p, n);
+    Spot {
+        at,
+        way: ways::next(way),
+    }
 }
 
 fn put_expired(out: &mut [u8], spot: Spot, wanted: bool, n: u16) -> Spot
     ensures { λ r. ⌜ Sent (now (out .entry)) spot (test wanted (Operand.TimerQ n) ∷ []) (now (out .exit)) r ⌝ }
 {
     let way = spot.way;
-    let p = put_asked(out, spot.at, way, wanted);
-    let at = lines::put_named(out, p, n, b".Q\n");
-    Spot { at, way: next(way) }
-}
-
-// %MXn. No chart has numbers that 16 bits do not hold.
-pub fn flip_flop(n: u64) -> Operand
-    ensures { λ r. ⌜ (n < 65536 → r ≡ Operand.Mx n) ⌝ }
-{
-    Operand::Mx((n % 65536) as u16)
+    let p = ways::put_asked(out, spot.at, way, wanted);
+    let at = spelling::put_named(out, p, n, b".Q\n");
+    Spot {
+        at,
+        way: ways::next(way),
+    }
 }
 
 // "low bit first": the bits of a code, on the flip-flops from first on, of those that start at base.
@@ -111,17 +74,6 @@ fn put_bits(out: &mut [u8], spot: Spot, base: u32, first: u16, width: u8, code: 
         i += 1;
     }
     p
-}
-
-// A test is on a flip-flop, a store on its working copy: "the working copy of %MXb is %MX(B + b)".
-fn base(way: Way, total: u32) -> u32
-    ensures { λ r. ⌜ r ≡ baseOf total way ⌝ }
-{
-    match way {
-        Way::First => 0,
-        Way::More => 0,
-        Way::Store => total,
-    }
 }
 
 // The group of a, at the code of its sub-state s.
@@ -145,7 +97,14 @@ pub fn put_group(
         return spot;
     }
     let way = spot.way;
-    put_bits(out, spot, base(way, total), first[a], width[a], code[s])
+    put_bits(
+        out,
+        spot,
+        ways::base(way, total),
+        first[a],
+        width[a],
+        code[s],
+    )
 }
 
 // The states from s up to the root, and how many of them are below it.
@@ -198,7 +157,7 @@ pub fn put_true(out: &mut [u8], spot: Spot) -> usize
     let at = spot.at;
     let way = spot.way;
     match way {
-        Way::First => lines::put_operator(out, at, Operator::Ld(Operand::True)),
+        Way::First => lines::put_part(out, at, b"LD TRUE\n"),
         Way::More => at,
         Way::Store => at,
     }

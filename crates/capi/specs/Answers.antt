@@ -16,10 +16,10 @@ use Rattle.writer.specs.declared.Written.{Written as Text}
 use Rattle.writer.specs.declared.Written.the-variants as T
 use Rattle.words.specs.declared.Written.{Written}
 use Rattle.words.specs.declared.Written.the-variants as W
-use Rattle.words.specs.declared.Sizes.{Sizes}
-use Rattle.words.specs.declared.Sizes.the-variants as S
-use Rattle.runs.specs.declared.Stepped.{Stepped}
-use Rattle.runs.specs.declared.Stepped.the-variants as N
+use Rattle.sizes.specs.declared.Sizes.{Sizes}
+use Rattle.sizes.specs.declared.Sizes.the-variants as S
+use Rattle.steps.specs.declared.Stepped.{Stepped}
+use Rattle.steps.specs.declared.Stepped.the-variants as N
 use Rattle.capi.specs.declared.Step.{Step}
 use Rattle.whole.specs.declared.Outcome.{Outcome}
 use Rattle.whole.specs.declared.Outcome.the-variants as K

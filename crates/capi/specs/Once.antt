@@ -12,16 +12,17 @@ use Rattle.meaning.specs.declared.Verdict.the-variants as G
 use Rattle.lent.specs.declared.Ran.{Ran}
 use Rattle.lent.specs.declared.Ran.the-variants as R
 use Rattle.runs.specs.Runs.{ChartRan, one-run}
-use Rattle.runs.specs.Steps.{ChartStepped, one-step}
-use Rattle.runs.specs.declared.Stepped.{Stepped}
+use Rattle.steps.specs.Steps.{ChartStepped, one-step}
+use Rattle.steps.specs.declared.Stepped.{Stepped}
 use Rattle.writer.specs.declared.Written.{Written as Text}
 use Rattle.writer.specs.declared.Written.the-variants as T
 use Rattle.translate.specs.Texts.{ChartWritten, one-text}
-use Rattle.words.specs.Answers.{WordsWritten, words-written-same, SizesTold, sizes-told-same}
+use Rattle.words.specs.Answers.{WordsWritten, words-written-same}
+use Rattle.sizes.specs.Told.{SizesTold, sizes-told-same}
 use Rattle.words.specs.declared.Written.{Written}
 use Rattle.words.specs.declared.Written.the-variants as W
-use Rattle.words.specs.declared.Sizes.{Sizes}
-use Rattle.words.specs.declared.Sizes.the-variants as S
+use Rattle.sizes.specs.declared.Sizes.{Sizes}
+use Rattle.sizes.specs.declared.Sizes.the-variants as S
 use Rattle.reader.specs.Reads.{TextRead}
 use Rattle.reader.specs.ReadLaws.{text-read-once}
 use Rattle.reader.specs.declared.Answer.{Answer as ReadAnswer}

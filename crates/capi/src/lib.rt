@@ -4,18 +4,18 @@ use lent::Ran;
 use meaning::Block;
 use meaning::Refusal;
 use meaning::Verdict;
-use runs::Stepped;
+use sizes::Sizes;
+use steps::Stepped;
 use tables::Chart;
 use whole::Outcome;
-use words::Sizes;
 use words::Written;
 ghost use mathlib.Core.Path.{_≡_};
 ghost use Rattle.meaning.specs.Check.{verdict};
 ghost use Rattle.meaning.specs.declared.Verdict.{Verdict};
 ghost use Rattle.tables.specs.Given.{tablesOf};
 ghost use Rattle.runs.specs.Runs.{ChartRan};
-ghost use Rattle.runs.specs.Steps.{ChartStepped};
-ghost use Rattle.runs.specs.declared.Stepped.{Stepped};
+ghost use Rattle.steps.specs.Steps.{ChartStepped};
+ghost use Rattle.steps.specs.declared.Stepped.{Stepped};
 ghost use Rattle.lent.specs.declared.Ran.{Ran};
 ghost use Rattle.capi.specs.Answers.{Told, RanTold, StepTold, WrittenTold, SizesTell};
 ghost use Rattle.translate.specs.Texts.{ChartWritten};
@@ -26,9 +26,10 @@ ghost use Rattle.reader.specs.declared.Answer.{Answer as ReadAnswer};
 ghost use Rattle.capi.specs.Answers.{OutcomeTold};
 ghost use Rattle.whole.specs.WrittenRan.{WrittenRan};
 ghost use Rattle.whole.specs.declared.Outcome.{Outcome};
-ghost use Rattle.words.specs.Answers.{WordsWritten, SizesTold};
+ghost use Rattle.words.specs.Answers.{WordsWritten};
+ghost use Rattle.sizes.specs.Told.{SizesTold};
 ghost use Rattle.words.specs.declared.Written.{Written};
-ghost use Rattle.words.specs.declared.Sizes.{Sizes};
+ghost use Rattle.sizes.specs.declared.Sizes.{Sizes};
 ghost use Rattle.capi.specs.Files.{fileOf, RecordsTold, KindRead};
 ghost use Rattle.il.specs.Scans.{holding};
 ghost use Rattle.programs.specs.Runs.{ProgramRan, ProgramScanned};
@@ -190,7 +191,7 @@ pub extern "C" fn splicetuck_step_chart(
         inputs: inputs,
         outputs: outputs,
     };
-    tell_step(runs::step_chart(
+    tell_step(steps::step_chart(
         chart,
         states,
         moves,
@@ -256,7 +257,7 @@ fn tell_sizes(s: Sizes) -> Controller
 pub extern "C" fn splicetuck_sizes_of(words: &[u32]) -> Controller
     ensures { λ a. ⌜ ((s : Sizes) × SizesTold (now (words .entry)) s × SizesTell s a) ⌝ }
 {
-    tell_sizes(words::sizes_of(words))
+    tell_sizes(sizes::sizes_of(words))
 }
 
 fn tell_text(w: writer::Written) -> Answer
@@ -329,7 +330,7 @@ pub extern "C" fn splicetuck_state_length(
         Verdict::Accepted => Answer {
             number: 0,
             place: 0,
-            length: lent::state_length(states, presets),
+            length: stateread::state_length(states, presets),
         },
     }
 }

@@ -16,7 +16,7 @@ use Rattle.meaning.specs.Check.{Check, firstFailing, verdictOf, sizePasses, hie
 use Rattle.meaning.specs.declared.Refusal.the-variants as R
 use Rattle.meaning.specs.declared.Verdict.{Verdict}
 use Rattle.meaning.specs.declared.Verdict.the-variants.{Accepted, Refused}
-use Rattle.literals.specs.Words.{WordsTo}
+use Rattle.asks.specs.Words.{WordsTo}
 use Rattle.chart.specs.declared.Rule.{Rule}
 use Rattle.chart.specs.declared.Rule.the-variants as L
 

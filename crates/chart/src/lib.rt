@@ -10,9 +10,9 @@ ghost use lib.ListN.{length};
 ghost use Rattle.meaning.specs.Tables.{Tables, stateCount, moveCount, timerCount};
 ghost use Rattle.meaning.specs.Check.{verdictOf};
 ghost use Rattle.tables.specs.Given.{tablesOf, Lent};
-ghost use Rattle.rules.specs.Falling.{Falling};
+ghost use Rattle.tree.specs.Falling.{Falling};
 ghost use Rattle.pairing.specs.Words.{Clear};
-ghost use Rattle.literals.specs.Words.{WordsTo};
+ghost use Rattle.asks.specs.Words.{WordsTo};
 ghost use Rattle.idle.specs.Leaves.{Sound, Full, Below, Sources};
 ghost use Rattle.chart.specs.Verdicts.{Checked, checkOf, literalCheck, idleCheck, overlapCheck, stateChecks, timerChecks, tableChecks, askChecks, moveChecks, flipFlopCheck, isRefused, Worded};
 
@@ -88,7 +88,7 @@ fn judge_overlap(states: &[u16], moves: &[i16], asks: &[u64]) -> Verdict
 {
     let mut i = 0;
     while i < moves.len() / 11 {
-        if !literals::overlap_passes(states, moves, asks, i) {
+        if !overlap::overlap_passes(states, moves, asks, i) {
             return Verdict::Refused(Refusal::Overlap(i));
         }
         i += 1;
@@ -128,12 +128,6 @@ fn rows(
     }
 }
 
-fn wide(x: u32) -> usize
-    ensures { λ r. ⌜ r ≡ x ⌝ }
-{
-    x as usize
-}
-
 fn passes(
     rule: Rule,
     chart: Chart,
@@ -147,11 +141,11 @@ fn passes(
     ensures { λ r. ⌜ r ≡ (checkOf (tablesOf chart (now (states .entry)) (now (moves .entry)) (now (presets .entry)) (now («timer_pairs» .entry)) (now («output_pairs» .entry))) rule) .passes i ⌝ }
 {
     match rule {
-        Rule::Hierarchy => rules::hierarchy_passes(states, i),
-        Rule::Initial => rules::initial_passes(states, i),
+        Rule::Hierarchy => tree::hierarchy_passes(states, i),
+        Rule::Initial => tree::initial_passes(states, i),
         Rule::Preset => rules::preset_passes(presets, i),
         Rule::TimerPair => rules::pair_passes(states, presets.len(), timer_pairs, i),
-        Rule::OutputPair => rules::pair_passes(states, wide(chart.outputs), output_pairs, i),
+        Rule::OutputPair => rules::output_pair_passes(chart, states, output_pairs, i),
         Rule::Move => rules::move_passes(states, moves, i),
     }
 }
@@ -363,15 +357,14 @@ fn judge_moves(
     judge_asks(inputs, states, moves, presets, timer_pairs, &mut asks)
 }
 
-// 11: "more than 128"
+// 11 FLIP-FLOPS
 fn judge_flip_flops(states: &[u16]) -> Verdict
     ensures { λ r. ⌜ ((c : Tables) → c .states ≡ now (states .entry) → Sound c → r ≡ verdictOf (flipFlopCheck c ∷ [])) ⌝ }
 {
-    let total = layout::flip_flops(states);
-    if Chart::FLIP_FLOPS < total {
-        return Verdict::Refused(Refusal::FlipFlops);
+    if flipflops::flip_flops_pass(states) {
+        return Verdict::Accepted;
     }
-    Verdict::Accepted
+    Verdict::Refused(Refusal::FlipFlops)
 }
 
 // The verdict of any tables at all. Sizes come first because they bound every loop below.
@@ -385,7 +378,7 @@ pub fn check(
 ) -> Verdict
     ensures { λ r. ⌜ Checked (tablesOf chart (now (states .entry)) (now (moves .entry)) (now (presets .entry)) (now («timer_pairs» .entry)) (now («output_pairs» .entry))) r ⌝ }
 {
-    if !rules::size_passes(chart, states, moves, presets, timer_pairs, output_pairs) {
+    if !counts::size_passes(chart, states, moves, presets, timer_pairs, output_pairs) {
         return Verdict::Refused(Refusal::Size);
     }
     let tables = judge_tables(chart, states, moves, presets, timer_pairs, output_pairs);

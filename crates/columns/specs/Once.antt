@@ -5,7 +5,7 @@ use Prim.Native.Nat.{ℕ, _*_, min}
 use lib.Seq.{sets}
 use lib.IntN.{ℤ}
 use Rattle.meaning.specs.Once.{Once, is-once}
-use Rattle.field.specs.Field.{signedOf}
+use Rattle.ended.specs.Decimals.{signedOf}
 use Rattle.columns.specs.Low.{low16, low32}
 
 pub low-32-once : (x : ℕ) → Once (λ r. r ≡ low32 x)

@@ -4,7 +4,7 @@ ghost use mathlib.Core.List.{map};
 ghost use Prim.Native.Nat.{_*_, min};
 ghost use lib.ListN.{set};
 ghost use lib.Seq.{sets};
-ghost use Rattle.field.specs.Field.{signedOf};
+ghost use Rattle.ended.specs.Decimals.{signedOf};
 ghost use Rattle.columns.specs.Low.{low16, low32};
 
 fn low_16(x: u64) -> u16
@@ -13,6 +13,7 @@ fn low_16(x: u64) -> u16
     (x % 65536) as u16
 }
 
+// The lower 32 bits.
 pub fn low_32(x: u64) -> u32
     ensures { λ r. ⌜ r ≡ low32 x ⌝ }
 {
@@ -71,38 +72,34 @@ pub fn narrow_signed(from: &[u64], to: &mut [i16])
 {
     let mut i = 0;
     while i < from.len() {
-        store_signed(to, i, field::signed(from[i]));
+        store_signed(to, i, ended::signed(from[i]));
         i += 1;
     }
-}
-
-fn smaller(a: usize, b: usize) -> usize
-    ensures { λ r. ⌜ r ≡ min a b ⌝ }
-{
-    if a < b { a } else { b }
 }
 
 // The numbers of so many rows of one, two or eleven, as far as there is room for them. No product wraps.
 pub fn ones(rows: usize, room: usize) -> usize
     ensures { λ r. ⌜ r ≡ min rows room ⌝ }
 {
-    smaller(rows, room)
+    lengths::shorter(rows, room)
 }
 
+// How many numbers so many rows of two have, as far as there is room.
 pub fn twos(rows: usize, room: usize) -> usize
     ensures { λ r. ⌜ r ≡ min (2 * rows) room ⌝ }
 {
     if room / 2 < rows {
         return room;
     }
-    smaller(2 * rows, room)
+    lengths::shorter(2 * rows, room)
 }
 
+// How many numbers so many rows of eleven have, as far as there is room.
 pub fn elevens(rows: usize, room: usize) -> usize
     ensures { λ r. ⌜ r ≡ min (11 * rows) room ⌝ }
 {
     if room / 11 < rows {
         return room;
     }
-    smaller(11 * rows, room)
+    lengths::shorter(11 * rows, room)
 }

@@ -6,11 +6,8 @@ use mathlib.Core.List.{List}
 use Prim.Native.Nat.{ℕ}
 use Rattle.meaning.specs.Once.{Once, is-once}
 use Rattle.meaning.specs.RowsLaws.{same-test}
-use Rattle.controller.specs.Sizes.{bytesNamed, rungsIn, noRungs}
+use Rattle.controller.specs.Sizes.{rungsIn, noRungs}
 use Rattle.controller.specs.Validity.{AreBits}
-
-pub flip-flop-bytes-once : (ws : List ℕ) → Once (λ r. r ≡ bytesNamed ws)
-flip-flop-bytes-once ws = is-once (bytesNamed ws)
 
 pub times-of-once : (ws : List ℕ) → Once (λ r. r ≡ rungsIn ws noRungs .times)
 times-of-once ws = is-once (rungsIn ws noRungs .times)

@@ -1,10 +1,7 @@
--- What a list of words asks of a lent controller: flip-flop bytes, and the time of each block's rung.
-use mathlib.Core.Path.{_≡_, refl, sym, ap, _∙_}
-use mathlib.Core.Logic.{inl, inr}
-use Prim.Native.Nat.{ℕ, zero, suc, _+_, _-_, _/_, _≤_, _<_, min, max}
-use native.Mathlib.Nat.{add-assoc}
+-- The time of each block's rung in a list of words, and all that the words ask of a lent controller.
+use mathlib.Core.Path.{_≡_, refl, _∙_}
+use Prim.Native.Nat.{ℕ, suc, _+_, _-_, _/_, _≤_, _<_, min}
 use native.Mathlib.Omega.{arith}
-use native.Mathlib.Decide.{decLe}
 use mathlib.Core.Bool.{Bool, true, false, _&&_, cond, false≢true}
 use mathlib.Core.List.{List, [], _∷_, _++_, map, flatMap}
 use lib.ListN.{length, getD, set, drop, drop-of-length-le, replicate}
@@ -14,29 +11,19 @@ use lib.Dec.{leb}
 use borrow.Author.Tests.{leb-true, le-leb, lt-leb}
 use Rattle.meaning.specs.RowsLaws.{and-l, and-r, and-both}
 use Rattle.meaning.specs.Tables.{mostTimers}
-use Rattle.meaning.specs.Programs.{Test, Chain, Part, also, bracket, Body, Rung, TimerRung, Program, loadOf, andOf, chainOf, partOf, bodyOf, rungOf, timerRungOf, timerRungsFrom, instructions, all, testable, flipFlopFits, bodyFits, storeFits, rungFits, timerRungFits, fits, carried, bytesFor, flipFlopBytes}
+use Rattle.meaning.specs.Programs.{Test, Chain, Part, also, bracket, Body, Rung, TimerRung, Program, loadOf, andOf, chainOf, partOf, bodyOf, rungOf, timerRungOf, timerRungsFrom, instructions, all, bodyFits, storeFits, rungFits, timerRungFits, fits, flipFlopBytes}
 use Rattle.meaning.specs.declared.Operand.{Operand}
-use Rattle.meaning.specs.declared.Operand.the-variants.{Mx, Ix, Qx, TimerQ, TimerIn, TimerPt, Timer, False, True}
 use Rattle.meaning.specs.declared.Operator.{Operator}
 use Rattle.meaning.specs.declared.Operator.the-variants.{Ld, Ldn, And, Andn, Or, Close, St, S, R, Cal, LdTime}
 use Rattle.format.specs.declared.Decoded.{Decoded}
 use Rattle.format.specs.declared.Decoded.the-variants.{Known, Unknown}
 use Rattle.format.specs.Words.{word, words}
-use Rattle.format.specs.Decode.{instruction, operandOf, kept, unpacked, decoded}
+use Rattle.format.specs.Decode.{instruction, decoded}
 use Rattle.format.specs.DecodeLaws.{decode-word, word-decode}
 use Rattle.format.specs.Passing.{program-instructions}
-use Rattle.instruction.specs.Effect.{due, calledBy, blockOf}
-use Rattle.instruction.specs.Numbers.{mx-of}
+use Rattle.due.specs.Due.{due, calledBy, blockOf}
 use Rattle.il.specs.Scans.{Fitting}
-
-unfoldable pub bytesIn : Decoded → ℕ
-bytesIn (Known i) = bytesFor (carried i)
-bytesIn Unknown = 0
-
--- the flip-flop bytes that the words name
-unfoldable pub bytesNamed : List ℕ → ℕ
-bytesNamed [] = 0
-bytesNamed (w ∷ ws) = max (bytesIn (decoded w)) (bytesNamed ws)
+use Rattle.sizes.specs.Bytes.{bytesNamed, bytes-words}
 
 unfoldable pub timeAfter : ℕ → Operator → ℕ
 timeAfter t (Ld o) = t
@@ -73,11 +60,6 @@ abbrev pub noRungs : Rungs
 noRungs = record { time = 0; times = replicate 32 0 }
 
 -- ---- by the instructions of a program that fits
-
-bytes-words : (is : List Operator) → all instruction is ≡ true → bytesNamed (map word is) ≡ flipFlopBytes is
-unfolding all bytesNamed bytesIn flipFlopBytes
-bytes-words [] e = refl
-bytes-words (i ∷ is) e = rw (bytesNamed, decode-word i (and-l (instruction i) (all instruction is) e), bytes-words is (and-r (instruction i) (all instruction is) e))
 
 rungsBy : List Operator → Rungs → Rungs
 rungsBy [] r = r
@@ -205,14 +187,6 @@ program-asks p ws f =
 
 -- ---- one word after the other
 
-pub bytes-on : (ws : List ℕ) (i : ℕ) → i < length ws → bytesNamed (drop i ws) ≡ max (bytesIn (decoded (getD ws i 0))) (bytesNamed (drop (i + 1) ws))
-unfolding bytesNamed
-bytes-on ws i h = rw (drop-cons ws i 0 h, add-one)
-
-pub bytes-end : (ws : List ℕ) (i : ℕ) → length ws ≤ i → bytesNamed (drop i ws) ≡ 0
-unfolding bytesNamed
-bytes-end ws i h = rw (drop-of-length-le ws {i = i} h)
-
 pub rungs-on : (ws : List ℕ) (i : ℕ) (r : Rungs) → i < length ws → rungsIn (drop i ws) r ≡ rungsIn (drop (i + 1) ws) (rungAfter (decoded (getD ws i 0)) r)
 unfolding rungsIn
 rungs-on ws i r h = rw (drop-cons ws i 0 h, add-one)
@@ -228,40 +202,6 @@ rung-called i t ts h = rw (lt-leb 32 (due 32 i) h)
 pub rung-none : (i : Decoded) (t : ℕ) (ts : List ℕ) → 32 ≤ due 32 i → rungAfter i (record { time = t; times = ts }) ≡ record { time = timeIn t i; times = ts }
 unfolding rungAfter
 rung-none i t ts h = rw (le-leb 32 (due 32 i) h)
-
--- ---- by the two numbers of a word, operator k and operand m
-
--- LD, LDN, AND and ANDN of a flip-flop
-pub bytes-tested : (k m : ℕ) → 0 < k → k < 5 → m < 256 → suc m ≡ bytesIn (unpacked k m)
-unfolding unpacked kept instruction testable bytesIn bytesFor carried
-bytes-tested zero m g h l = absurd (omega arith)
-bytes-tested (suc zero) m g h l = rw (mx-of m (omega arith), le-leb m 255 (omega arith))
-bytes-tested (suc (suc zero)) m g h l = rw (mx-of m (omega arith), le-leb m 255 (omega arith))
-bytes-tested (suc (suc (suc zero))) m g h l = rw (mx-of m (omega arith), le-leb m 255 (omega arith))
-bytes-tested (suc (suc (suc (suc zero)))) m g h l = rw (mx-of m (omega arith), le-leb m 255 (omega arith))
-bytes-tested (suc (suc (suc (suc (suc k))))) m g h l = absurd (omega arith)
-
--- ST, S and R of one
-pub bytes-stored : (k m : ℕ) → 6 < k → k < 10 → m < 256 → suc m ≡ bytesIn (unpacked k m)
-unfolding unpacked kept instruction flipFlopFits bytesIn bytesFor carried
-bytes-stored k m g h l =
-    let o : operandOf m ≡ Mx m = mx-of m (omega arith) in
-    let f : leb m 255 ≡ true = le-leb m 255 (omega arith) in
-    elim (decLe k 7) [
-      | yes a ↦ let e : k ≡ 7 = omega arith in rw (e, o, f)
-      | no a ↦ elim (decLe k 8) [
-        | yes b ↦ let e : k ≡ 8 = omega arith in rw (e, o, f)
-        | no b ↦ let e : k ≡ 9 = omega arith in rw (e, o, f)
-      ]
-    ]
-
--- OR( and )
-pub bytes-bracket : (k : ℕ) → 4 < k → k < 7 → 0 ≡ bytesIn (unpacked k 0)
-unfolding unpacked bytesIn bytesFor carried
-bytes-bracket k g h = elim (decLe k 5) [
-  | yes a ↦ let e : k ≡ 5 = omega arith in rw e
-  | no a ↦ let e : k ≡ 6 = omega arith in rw e
-]
 
 -- no time is loaded by what is below CAL
 pub not-timed : (t w : ℕ) → w / 134217728 < 10 → timeIn t (decoded w) ≡ t

@@ -1,14 +1,11 @@
 -- Laws of Field.antt, case by case.
-use mathlib.Core.Path.{_≡_, refl, ap}
-use Prim.Native.Nat.{ℕ, zero, suc, _+_, _*_, _-_, _≤_, _<_}
+use mathlib.Core.Path.{_≡_}
+use Prim.Native.Nat.{ℕ, _+_, _*_, _-_, _≤_, _<_}
 use native.Mathlib.Omega.{arith}
-use mathlib.Core.Bool.{Bool, true, false, cond, false≢true}
-use lib.IntN.{ℤ, pos, negsuc, _-ℤ_}
+use mathlib.Core.Bool.{Bool, true, false, cond}
 use borrow.Author.Tests.{le-leb, lt-leb, ne-eqb}
-use Rattle.field.specs.declared.Phase.{Phase}
-use Rattle.field.specs.declared.Phase.the-variants.{Fresh, Empty, Quote, Minus, Number, Closed, Return, Bad}
-use Rattle.field.specs.declared.Decimal.the-variants.{IsNot}
-use Rattle.field.specs.Field.{grown, begun, numberAfter, phaseAfter, decimalOf, returned, untouched, begins}
+use Rattle.field.specs.declared.Phase.the-variants.{Minus, Number, Bad}
+use Rattle.field.specs.Field.{grown, begun, numberAfter, phaseAfter}
 
 -- ---- a digit more
 
@@ -31,18 +28,6 @@ module _ (limit : ℕ) (q s : Bool) (n b : ℕ) where
 
 -- ---- a bare number
 
--- where a field begins, its first byte says what it is
-pub begin-after : (most below : ℕ) (p : Phase) (b : ℕ) → begins p ≡ true → phaseAfter most below p b ≡ begun most b
-unfolding phaseAfter
-begin-after most below Fresh b e = refl
-begin-after most below Empty b e = refl
-begin-after most below Quote b e = absurd (false≢true e)
-begin-after most below (Minus q) b e = absurd (false≢true e)
-begin-after most below (Number q s n) b e = absurd (false≢true e)
-begin-after most below (Closed s n) b e = absurd (false≢true e)
-begin-after most below Return b e = absurd (false≢true e)
-begin-after most below Bad b e = absurd (false≢true e)
-
 -- its first digit
 pub digit-first : (most b : ℕ) → 48 ≤ b → b ≤ 57 → b - 48 ≤ most → begun most b ≡ Number false false (b - 48)
 unfolding begun
@@ -61,33 +46,3 @@ digit-minus most below b h g p =
 pub digit-next : (most below : ℕ) (s : Bool) (n b : ℕ) → 48 ≤ b → b ≤ 57 → 0 < n → 10 * n + (b - 48) ≤ cond s below most → phaseAfter most below (Number false s n) b ≡ Number false s (10 * n + (b - 48))
 unfolding phaseAfter numberAfter
 digit-next most below s n b h g z p = rw (ne-eqb b 34 (λ y. omega arith), ne-eqb n 0 (λ y. omega arith)) (grown-digit (cond s below most) false s n b h g p)
-
--- ---- nothing to store
-
-pub return-none : (p : Phase) → returned p ≡ true → decimalOf p ≡ IsNot
-unfolding decimalOf
-return-none Fresh e = refl
-return-none Empty e = refl
-return-none Quote e = refl
-return-none (Minus q) e = refl
-return-none (Number q s n) e = absurd (false≢true e)
-return-none (Closed s n) e = absurd (false≢true e)
-return-none Return e = refl
-return-none Bad e = refl
-
-pub fresh-none : (p : Phase) → untouched p ≡ true → decimalOf p ≡ IsNot
-unfolding decimalOf
-fresh-none Fresh e = refl
-fresh-none Empty e = refl
-fresh-none Quote e = refl
-fresh-none (Minus q) e = refl
-fresh-none (Number q s n) e = absurd (false≢true e)
-fresh-none (Closed s n) e = absurd (false≢true e)
-fresh-none Return e = refl
-fresh-none Bad e = refl
-
--- ---- signed numbers
-
-pub minus-one : (n : ℕ) → negsuc 0 -ℤ pos n ≡ negsuc n
-minus-one zero = refl
-minus-one (suc n) = ap negsuc (omega arith)

@@ -5,8 +5,8 @@ use Prim.Native.Nat.{ℕ, suc, _+_, _*_, _≤_, _<_, max}
 use native.Mathlib.Omega.{arith}
 use native.Mathlib.Nat.{zero-add, suc-mul}
 use mathlib.Core.Bool.{true, false}
-use mathlib.Core.List.{List, [], _∷_, _++_, map, flatMap}
-use lib.ListN.{length, getD, length-append, length-map, drop-of-length-le}
+use mathlib.Core.List.{List, [], _∷_, map, flatMap}
+use lib.ListN.{length, getD, length-append, length-map}
 use lib.Seq.{sets, sets-eq}
 use lib.Dec.{leb, eqb}
 use borrow.Author.Tests.{le-leb, lt-leb, eqb-true}
@@ -20,7 +20,7 @@ use Rattle.meaning.specs.declared.Verdict.the-variants as G
 use Rattle.format.specs.Records.{front, pieces, withoutCr, ended, records, content, fields, fieldValue, decimalFits, recordPasses, numbers}
 use Rattle.format.specs.Printed.{unsigned, signed16}
 use Rattle.field.specs.Field.{top}
-use Rattle.records.specs.declared.Reader.{Reader}
+use Rattle.passing.specs.declared.Reader.{Reader}
 use Rattle.records.specs.declared.Answer.{Answer}
 use Rattle.records.specs.declared.Answer.the-variants.{Rows, Refused}
 use Rattle.records.specs.Automaton.{feedAll, atEnd, answerOf}
@@ -166,23 +166,21 @@ calls-pass f bs out a left h c =
 
 -- ---- the call
 
--- what is written into an empty part
-pub empty-part : (w l : List ℕ) → length (w ++ l) ≡ length l → w ++ l ≡ l
-empty-part w l e = ap (λ (v : List ℕ). v ++ l) (drop-of-length-le w {i = 0} (omega (arith, length-append w l)))
-
 module _ (f : File) (bs x y : List ℕ) where
   -- no more numbers than a count holds
   pub count-few : (n : ℕ) → Passed f bs x (Rows n) y → n * rowFor f ≤ suc (length bs)
   count-few n p = omega (arith, p .count n refl, numbers-few bs)
 
-  pub read-refused : (r : Refusal) (out : List ℕ) → Passed f bs x (Refused r) y → RecordsRead f bs out (A.Refused r) out
-  read-refused r out p = let v = answered-refused (fieldCheck f bs) (length (records bs)) r (sym (p .read .answer)) in record { answer = rw v; slice = rw v }
+  pub read-refused : (r : Refusal) (out left : List ℕ) → Passed f bs x (Refused r) y → left ≡ out → RecordsRead f bs out (A.Refused r) left
+  read-refused r out left p k = let v = answered-refused (fieldCheck f bs) (length (records bs)) r (sym (p .read .answer)) in record { answer = rw v; slice = rw (v, k) }
 
-  pub read-cramped : (n : ℕ) (out : List ℕ) → Passed f bs x (Rows n) y → length out < n * rowFor f → RecordsRead f bs out (A.Refused (R.Room (n * rowFor f))) out
-  read-cramped n out p h =
+  -- k fields a record
+  pub read-cramped : (n k : ℕ) (out left : List ℕ) → Passed f bs x (Rows n) y → k ≡ rowFor f → length out < n * k → left ≡ out → RecordsRead f bs out (A.Refused (R.Room (n * k))) left
+  read-cramped n k out left p e h g =
       let v = answered-rows (fieldCheck f bs) (length (records bs)) n (sym (p .read .answer)) .0 in
-      let t : leb (length (numbers bs)) (length out) ≡ false = lt-leb (length (numbers bs)) (length out) (omega (arith, p .count n refl)) in
-      record { answer = rw (v, t, p .count n refl); slice = rw (v, t) }
+      let m : length (numbers bs) ≡ n * k = p .count n refl ∙ ap (λ (j : ℕ). n * j) (sym e) in
+      let t : leb (length (numbers bs)) (length out) ≡ false = lt-leb (length (numbers bs)) (length out) (omega (arith, m)) in
+      record { answer = rw (v, t, m); slice = rw (v, t, g) }
 
   pub read-passed : (n : ℕ) (out : List ℕ) (a : Answer) (left : List ℕ) → Passed f bs x (Rows n) y → n * rowFor f ≤ length out → Passed f bs out a left
       → RecordsRead f bs out (A.Numbers n (n * rowFor f)) left

@@ -12,11 +12,11 @@ use Rattle.meaning.specs.declared.Refusal.the-variants as R
 use Rattle.meaning.specs.declared.Verdict.{Verdict}
 use Rattle.meaning.specs.declared.Verdict.the-variants.{Accepted, Refused}
 use Rattle.format.specs.Records.{Column, records, numbers}
-use Rattle.format.specs.Printed.{unsigned, signed16, fileCheck, frameCheck, scansFileCheck}
+use Rattle.format.specs.Printed.{unsigned, signed16, frameCheck, statesFileCheck, movesFileCheck, presetsFileCheck, pairsFileCheck, scansFileCheck}
 use Rattle.records.specs.declared.Answer.{Answer as Told}
 use Rattle.records.specs.declared.Answer.the-variants.{Rows}
-use Rattle.records.specs.declared.Reader.{Reader}
-use Rattle.records.specs.Automaton.{fresh}
+use Rattle.passing.specs.declared.Reader.{Reader}
+use Rattle.passing.specs.Passing.{fresh}
 use Rattle.reading.specs.Fields.{stored}
 use Rattle.reading.specs.Files.{Read}
 use Rattle.file.specs.declared.File.{File}
@@ -24,14 +24,14 @@ use Rattle.file.specs.declared.File.the-variants.{Frame, States, Moves, 
 use Rattle.file.specs.declared.Answer.{Answer}
 use Rattle.file.specs.declared.Answer.the-variants as A
 
--- 16 FIELD of each file, as `fieldChecks` has them for the program
+-- 16 FIELD of a file: the check that the program's `fieldChecks` has for it
 abbrev pub fieldCheck : File → List ℕ → Check
 fieldCheck Frame bs = frameCheck bs
-fieldCheck States bs = fileCheck (unsigned 16) stateRow bs
-fieldCheck Moves bs = fileCheck signed16 moveRow bs
-fieldCheck Presets bs = fileCheck (unsigned 32) 1 bs
-fieldCheck TimerPairs bs = fileCheck (unsigned 16) pairRow bs
-fieldCheck OutputPairs bs = fileCheck (unsigned 16) pairRow bs
+fieldCheck States bs = statesFileCheck bs
+fieldCheck Moves bs = movesFileCheck bs
+fieldCheck Presets bs = presetsFileCheck bs
+fieldCheck TimerPairs bs = pairsFileCheck bs
+fieldCheck OutputPairs bs = pairsFileCheck bs
 fieldCheck Scans bs = scansFileCheck bs
 
 abbrev pub fieldVerdict : File → List ℕ → Verdict

@@ -1,6 +1,6 @@
 // One of the seven files as a whole: its numbers from the front of a slice, or why it is refused.
 use meaning::Refusal;
-use records::Reader;
+use passing::Reader;
 ghost use mathlib.Core.Path.{_≡_};
 ghost use Rattle.file.specs.Reads.{readerFor, rowFor, Passed, RecordsRead};
 

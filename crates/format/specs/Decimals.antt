@@ -7,7 +7,7 @@ use native.Mathlib.Omega.{arith}
 use native.Mathlib.Decide.{decLe}
 use mathlib.Core.Bool.{Bool, true, false, true≢false}
 use mathlib.Core.List.{List, [], _∷_, _++_, append-nil, append-assoc}
-use lib.ListN.{getD}
+use lib.ListN.{length, getD, length-append}
 use lib.Dec.{ltb, eqb}
 use borrow.Author.Tests.{ne-eqb, le-leb, lt-ltb, le-ltb, ltb-true, ltb-false}
 use Rattle.meaning.specs.RowsLaws.{which, and-both}
@@ -27,10 +27,15 @@ huge = 100000000000000000000
 
 -- ---- digit by digit
 
+-- below ten there is one, however many there may be
+one-below : (k n : ℕ) → n < 10 → digits (suc k) n ≡ (48 + n % 10) ∷ []
+unfolding digits
+one-below k n h = ap (λ (b : Bool). elim b [ true ↦ [] | false ↦ digits k (n / 10) ] ++ ((48 + n % 10) ∷ [])) (lt-ltb n 10 h)
+
 -- a number that k + 1 digits hold has no more
 one-more : (k n : ℕ) → n < 10 ^ suc k → digits k n ≡ digits (suc k) n
 unfolding digits
-one-more zero n h = rw (digits, lt-ltb n 10 h)
+one-more zero n h = sym (one-below 0 n h)
 one-more (suc k) n h = elim (decLe 10 n) [
   | yes g ↦ rw (digits, le-ltb n 10 g) (ap (λ d. d ++ ((48 + n % 10) ∷ [])) (one-more k (n / 10) (omega (arith, pow-suc 10 (suc k)))))
   | no g ↦ rw (digits, lt-ltb n 10 (omega arith))
@@ -39,6 +44,18 @@ one-more (suc k) n h = elim (decLe 10 n) [
 pub decimal-small : (n : ℕ) → n < 10 → decimal n ≡ (48 + n) ∷ []
 unfolding decimal digits
 decimal-small n h = let e : n % 10 ≡ n = omega arith in rw (lt-ltb n 10 h, digits, e)
+
+digits-few : (k n : ℕ) → length (digits k n) ≤ suc k
+unfolding digits
+digits-few zero n = omega arith
+digits-few (suc k) n = elim (which (ltb n 10)) [
+  | inl e ↦ rw (digits, e) (omega arith)
+  | inr e ↦ rw (digits, e) (omega (arith, length-append (digits k (n / 10)) ((48 + n % 10) ∷ []), digits-few k (n / 10)))
+]
+
+pub decimal-few : (n : ℕ) → length (decimal n) ≤ 20
+unfolding decimal
+decimal-few n = digits-few 19 n
 
 -- the last digit
 pub decimal-last : (n : ℕ) → 10 ≤ n → n < huge → decimal n ≡ decimal (n / 10) ++ ((48 + n % 10) ∷ [])

@@ -7,6 +7,7 @@ pub mod Compute
 pub mod Lamp
 pub mod Decode
 pub mod DecodeLaws
+pub mod Operands
 pub mod Phases
 pub mod Moves
 pub mod Passing
@@ -23,3 +24,4 @@ pub mod TextLaws
 pub mod TextPlaces
 pub mod Bytes
 pub mod TextReader
+pub mod Measured

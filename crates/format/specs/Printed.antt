@@ -55,10 +55,23 @@ frameCheck bs = record { refusal = R.Field; rows = max 1 (length (records bs)); 
 unfoldable pub scansFileCheck : List ℕ → Check
 scansFileCheck bs = record { refusal = R.Field; rows = length (records bs); passes = λ i. ltb i mostScans && recordPasses (unsigned 64) 1 (recordAt bs i) }
 
+abbrev pub statesFileCheck : List ℕ → Check
+statesFileCheck bs = fileCheck (unsigned 16) stateRow bs
+
+abbrev pub movesFileCheck : List ℕ → Check
+movesFileCheck bs = fileCheck signed16 moveRow bs
+
+abbrev pub presetsFileCheck : List ℕ → Check
+presetsFileCheck bs = fileCheck (unsigned 32) 1 bs
+
+-- timer pairs and output pairs
+abbrev pub pairsFileCheck : List ℕ → Check
+pairsFileCheck bs = fileCheck (unsigned 16) pairRow bs
+
 -- "FIELD comes before all, file by file in the order of the program section."
 unfoldable pub fieldChecks : Files → List Check
-fieldChecks f = frameCheck (f .frame) ∷ fileCheck (unsigned 16) stateRow (f .states) ∷ fileCheck signed16 moveRow (f .moves) ∷ fileCheck (unsigned 32) 1 (f .presets)
-    ∷ fileCheck (unsigned 16) pairRow (f .timerPairs) ∷ fileCheck (unsigned 16) pairRow (f .outputPairs) ∷ scansFileCheck (f .scans) ∷ []
+fieldChecks f = frameCheck (f .frame) ∷ statesFileCheck (f .states) ∷ movesFileCheck (f .moves) ∷ presetsFileCheck (f .presets) ∷ pairsFileCheck (f .timerPairs)
+    ∷ pairsFileCheck (f .outputPairs) ∷ scansFileCheck (f .scans) ∷ []
 
 unfoldable pub naturals : List ℕ → List ℕ
 naturals bs = map natAbs (numbers bs)

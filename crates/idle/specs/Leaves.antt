@@ -23,11 +23,11 @@ use Rattle.meaning.specs.Check.{withinCounts, initialPasses, literalPasses, run
 use Rattle.meaning.specs.Rules.{HierarchyRule, MoveRule}
 use Rattle.meaning.specs.declared.Kind.{Kind}
 use Rattle.meaning.specs.declared.Kind.the-variants.{Unused, Input, Timer, Unknown}
-use Rattle.rules.specs.Falling.{Falling}
+use Rattle.tree.specs.Falling.{Falling}
 use Rattle.pairing.specs.Words.{Tree, PairedWords}
 use Rattle.pairing.specs.WordsLaws.{or-on, and-on, same-bits, root-stays}
-use Rattle.literals.specs.Words.{asksFor, asked, Words}
-use Rattle.literals.specs.WordsLaws.{size-as, known}
+use Rattle.asks.specs.Words.{asksFor, asked, Words}
+use Rattle.asks.specs.WordsLaws.{size-as, known}
 
 -- what the later checks know from the earlier ones
 pub record Sound (c : Tables) : Type 0 where

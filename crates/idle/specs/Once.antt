@@ -10,7 +10,7 @@ use Rattle.meaning.specs.Once.{Once, OnceSeen, Words}
 use Rattle.meaning.specs.BitLaws.{same-bits}
 use Rattle.meaning.specs.Tables.{Tables, stateCount, source}
 use Rattle.meaning.specs.Check.{literalPasses, idlePasses}
-use Rattle.literals.specs.Words.{WordsAt}
+use Rattle.asks.specs.Words.{WordsAt}
 use Rattle.idle.specs.Leaves.{Ready, Below, Full}
 
 pub run-below-once : (c : Tables) (ss rs ws : List ℕ) (s : ℕ) → Ready c ss rs → stateCount c ≤ length ws → Full ws → s < stateCount c

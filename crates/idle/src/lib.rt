@@ -9,7 +9,7 @@ ghost use Rattle.meaning.specs.Tables.{Tables, stateCount, superState, source};
 ghost use Rattle.meaning.specs.Hierarchy.{atOrAbove};
 ghost use Rattle.meaning.specs.Literals.{inputOn};
 ghost use Rattle.meaning.specs.Check.{literalPasses, idlePasses};
-ghost use Rattle.literals.specs.Words.{WordsAt};
+ghost use Rattle.asks.specs.Words.{WordsAt};
 ghost use Rattle.idle.specs.Leaves.{Ready, leafRuns, Full, Below};
 
 // Of what all leaves below x run so far, what this one runs too.

@@ -15,7 +15,9 @@ use Rattle.instruction.specs.declared.Running.{Running}
 use Rattle.meaning.specs.declared.Block.{Block}
 use Rattle.meaning.specs.Scan.{blank}
 use Rattle.il.specs.declared.Stop.{Stop}
-use Rattle.instruction.specs.Effect.{due, running, flipFlops, calledWith}
+use Rattle.due.specs.Due.{due}
+use Rattle.instruction.specs.Effect.{running, flipFlops}
+use Rattle.block.specs.Called.{calledWith}
 use Rattle.il.specs.Run.{Reached, stoppedAt, endedAt, advanced, Whole, calling, oneWord, wholeScan, resumed}
 
 module _ (x c : ℕ) (ws : List ℕ) (at : ℕ) (s : Running) (fs : List ℕ) where

@@ -28,9 +28,13 @@ use Rattle.format.specs.declared.Decoded.{Decoded}
 use Rattle.format.specs.declared.Decoded.the-variants.{Known, Unknown}
 use Rattle.instruction.specs.declared.Running.{Running}
 use Rattle.instruction.specs.Effect as run
-use Rattle.instruction.specs.Effect.{bitOn, withBit, valueIn, storedTo, evaluated, put, acted, running, flipFlops, blockOf, calledBy, due, calledWith, qsOf}
+use Rattle.values.specs.Value.{bitOn, withBit, valueIn, qsOf}
+use Rattle.instruction.specs.Effect.{storedTo, evaluated, running, flipFlops}
+use Rattle.stores.specs.Acted.{put, acted}
+use Rattle.due.specs.Due.{blockOf, calledBy, due}
+use Rattle.block.specs.Called.{calledWith}
 use Rattle.il.specs.Run.{Whole, calling, oneWord}
-use Rattle.instruction.specs.Bits.{word-bit, word-set}
+use Rattle.values.specs.Bits.{word-bit, word-set}
 
 -- the scan by instructions
 unfoldable pub ranAll : ℕ → ℕ → List Operator → Whole → Whole

@@ -1,6 +1,5 @@
 -- What the functions compute of the words: up to the next CAL, and all of them. Follow.antt proves that the instructions of an
 -- accepted program do the same.
-use mathlib.Core.Path.{_≡_}
 use Prim.Native.Nat.{ℕ, suc}
 use mathlib.Core.Bool.{Bool, true, false, cond}
 use mathlib.Core.List.{List, [], _∷_}
@@ -11,7 +10,10 @@ use Rattle.meaning.specs.declared.Block.{Block}
 use Rattle.format.specs.declared.Decoded.{Decoded}
 use Rattle.format.specs.Decode.{decoded}
 use Rattle.instruction.specs.declared.Running.{Running}
-use Rattle.instruction.specs.Effect.{withBit, withQs, running, flipFlops, due, calledWith, qsOf}
+use Rattle.values.specs.Value.{withBit, qsOf}
+use Rattle.instruction.specs.Effect.{withQs, running, flipFlops}
+use Rattle.due.specs.Due.{due}
+use Rattle.block.specs.Called.{calledWith}
 use Rattle.il.specs.declared.Stop.{Stop}
 
 -- where the words up to a CAL, or all of them, have led
@@ -63,9 +65,3 @@ fresh qs = record { result = false; aside = false; time = 0; on = false; pt = 0;
 -- the start of a scan
 abbrev pub begunWith : List ℕ → List Block → Whole
 begunWith fs bs = record { s = fresh (qsOf bs); ff = fs; bs = bs }
-
--- the bytes, the blocks and the output word that a scan leaves
-pub record Computed (d x : ℕ) (ws fs : List ℕ) (bs : List Block) (fs′ : List ℕ) (bs′ : List Block) (o : ℕ) : Type 0 where
-  pub flipFlops : fs′ ≡ wholeScan d x ws (begunWith fs bs) .ff
-  pub blocks : bs′ ≡ wholeScan d x ws (begunWith fs bs) .bs
-  pub outputs : o ≡ wholeScan d x ws (begunWith fs bs) .s .outputs

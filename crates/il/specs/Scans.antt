@@ -10,7 +10,7 @@ use Rattle.meaning.specs.Scan.{Controller, begun, executedAll, scanned, outputW
 use Rattle.meaning.specs.declared.Block.{Block}
 use Rattle.format.specs.Words.{words}
 use Rattle.format.specs.Passing.{program-instructions}
-use Rattle.il.specs.Run.{Whole, wholeScan, begunWith, Computed}
+use Rattle.il.specs.Run.{Whole, wholeScan, begunWith}
 use Rattle.il.specs.Follow.{Same, program}
 use Rattle.il.specs.Accepted.{scan-words}
 
@@ -64,11 +64,3 @@ pub record OneScan (d x : ℕ) (ws : List ℕ) (k k′ : Controller) (o : ℕ) :
   pub controller : k′ ≡ afterScan d x ws k
   pub word : o ≡ outputAfter d x ws k
   pub right : (p : Program) → Fitting p ws → (k′ ≡ scanned d x (instructions p) k) × (o ≡ outputWord d x (instructions p) k)
-
-pub one-scan : {d x : ℕ} {ws fs : List ℕ} {bs : List Block} {fs′ : List ℕ} {bs′ : List Block} {o : ℕ} → length bs ≤ 64
-    → Computed d x ws fs bs fs′ bs′ o → OneScan d x ws (holding fs bs) (holding fs′ bs′) o
-unfolding afterScan outputAfter wholeFrom
-one-scan {d} {x} {ws} {fs} {bs} {fs′} {bs′} {o} h c =
-    let e : holding fs′ bs′ ≡ afterScan d x ws (holding fs bs) = rw (c .flipFlops, c .blocks) in
-    let g : o ≡ outputAfter d x ws (holding fs bs) = c .outputs in
-    record { controller = e; word = g; right = λ p f. (let r = scan-right d x p ws (holding fs bs) f h in (e ∙ r .0, g ∙ r .1)) }

@@ -1,10 +1,7 @@
 // A program's words run over a lent controller: flip-flop bytes and timer blocks.
 use instruction::Running;
-use meaning::Block;
 ghost use mathlib.Core.Path.{_≡_};
-ghost use lib.ListN.{length, set, drop};
-ghost use Rattle.instruction.specs.Effect.{qsOf};
-ghost use Rattle.il.specs.Scans.{holding, OneScan};
+ghost use lib.ListN.{length, getD, set, drop};
 ghost use Rattle.il.specs.Advance.{Goes};
 ghost use Rattle.il.specs.Run.{advanced, resumed, fresh};
 
@@ -29,7 +26,7 @@ pub fn advance(words: &[u32], ff: &mut [u8], x: u64, count: usize, p: Stop) -> S
     while at < words.len() {
         let w = words[at];
         at += 1;
-        let k = instruction::word_due(count, w);
+        let k = due::word_due(count, w);
         if k < count {
             return Stop {
                 at: at,
@@ -60,7 +57,7 @@ pub fn resume(p: Stop, q: bool) -> Stop
     let qs = s.qs;
     let k = p.block;
     if k < 64 {
-        s.qs = instruction::with_bit(qs, k as u16, q);
+        s.qs = values::with_bit(qs, k as u16, q);
     }
     Stop {
         at: p.at,
@@ -72,6 +69,7 @@ pub fn resume(p: Stop, q: bool) -> Stop
     }
 }
 
+// Where a scan begins.
 pub fn begin(qs: u64) -> Stop
     ensures { λ r. ⌜ (r .at ≡ 0) × (r .running ≡ fresh qs) ⌝ }
 {
@@ -94,52 +92,25 @@ pub fn begin(qs: u64) -> Stop
     }
 }
 
-// The blocks' Q as a word.
-fn q_word(row: [Block; 32]) -> u64
-    ensures { λ r. ⌜ r ≡ qsOf row ⌝ }
+// The output word of a scan that has ended.
+pub fn outputs(t: Stop) -> u64
+    ensures { λ r. ⌜ r ≡ t .running .outputs ⌝ }
 {
-    let mut qs: u64 = 0;
-    let mut i: usize = 32;
-    while 0 < i {
-        i -= 1;
-        let b = row[i];
-        qs *= 2;
-        if b.q {
-            qs += 1;
-        }
-    }
-    qs
+    let s = t.running;
+    s.outputs
 }
 
-// What a scan leaves by value: the blocks and the output word.
-pub struct Scanned {
-    pub blocks: [Block; 32],
-    pub outputs: u64,
-}
-
-// One scan, with the blocks by value.
-pub fn scan_core(words: &[u32], step: u32, x: u64, ff: &mut [u8], row: [Block; 32]) -> Scanned
-    ensures { λ r. ⌜ OneScan step x (now (words .entry)) (holding (now (ff .entry)) row) (holding (now (ff .exit)) (r .blocks)) (r .outputs) ⌝ }
+// The input word of scan i, from 0.
+pub fn input(inputs: &[u64], i: usize) -> u64
+    ensures { λ r. ⌜ r ≡ getD (now (inputs .entry)) i 0 ⌝ }
 {
-    let mut bs = row;
-    let mut p = begin(q_word(row));
-    loop {
-        let t = advance(words, ff, x, 32, p);
-        let s = t.running;
-        let outputs = s.outputs;
-        if !t.due {
-            return Scanned {
-                blocks: bs,
-                outputs: outputs,
-            };
-        }
-        let k = t.block;
-        let b = instruction::cal(bs[k], t.on, t.pt, step);
-        bs[k] = b;
-        p = resume(t, b.q);
+    if i < inputs.len() {
+        return inputs[i];
     }
+    0
 }
 
+// The output word of scan i, from 0.
 pub fn put_word(results: &mut [u64], i: usize, w: u64)
     ensures { λ _. ⌜ now (results .exit) ≡ set (now (results .entry)) i w ⌝ }
 {

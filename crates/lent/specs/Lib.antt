@@ -1,4 +1,3 @@
 pub mod Slice
-pub mod SliceLaws
 pub mod RunLaws
 pub mod Once

@@ -1,20 +1,15 @@
--- No second answer of either function of this crate, on tables that keep the rules.
-use mathlib.Core.Path.{_≡_, sym, _∙_}
+-- No second answer of the function of this crate, on tables that keep the rules.
+use mathlib.Core.Path.{sym, _∙_}
 use mathlib.Core.List.{List}
 use Prim.Native.Nat.{ℕ}
 use lib.IntN.{ℤ}
 use Rattle.meaning.specs.Once.{Once, four}
 use Rattle.meaning.specs.Tables.{Tables}
 use Rattle.meaning.specs.Rules.{Rules}
-use Rattle.meaning.specs.Lent.{lentLength}
 use Rattle.tables.specs.declared.Chart.{Chart}
 use Rattle.machine.specs.Held.{Given}
 use Rattle.lent.specs.declared.Ran.{Ran}
 use Rattle.lent.specs.Slice.{LentRun}
-
-pub state-length-once : (c : Tables) (ss ps : List ℕ) → c .states ≡ ss → c .presets ≡ ps → Rules c
-    → Once (λ r. (k : Tables) → k .states ≡ ss → k .presets ≡ ps → Rules k → r ≡ lentLength k)
-state-length-once c ss ps e f g x y p q = p c e f g ∙ sym (q c e f g)
 
 pub run-checked-once : (c : Tables) (h : Chart) (ss : List ℕ) (ms : List ℤ) (ps ts os xs l leaves outputs : List ℕ) → Given c (h .step) (h .outputs) ss ms ps ts os → Rules c
     → Once {A = Ran × List ℕ × List ℕ × List ℕ} (λ (r, l′, ls′, os′). (k : Tables) → Given k (h .step) (h .outputs) ss ms ps ts os → Rules k → LentRun k xs l leaves outputs r l′ ls′ os′)

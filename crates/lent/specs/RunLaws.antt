@@ -1,14 +1,15 @@
 -- The answers of a run over a lent chart state.
 use mathlib.Core.Path.{_≡_, refl, ap, _∙_}
 use mathlib.Core.Logic.{_≢_}
-use Prim.Native.Nat.{ℕ}
-use mathlib.Core.Bool.{Bool, true, false, cond}
+use Prim.Native.Nat.{ℕ, _≤_, _/_}
+use mathlib.Core.Bool.{Bool, true, false, cond, _&&_, true≢false}
 use mathlib.Core.List.{List, [], _∷_}
-use lib.ListN.{length}
+use lib.ListN.{length, replicate, length-replicate}
 use lib.Dec.{eqb}
-use borrow.Author.Tests.{eq-eqb, ne-eqb}
+use borrow.Author.Tests.{eq-eqb}
 use Rattle.meaning.specs.Rows.{least}
-use Rattle.meaning.specs.Tables.{Tables}
+use Rattle.meaning.specs.RowsLaws.{getD-equal}
+use Rattle.meaning.specs.Tables.{Tables, stateCount, moveCount}
 use Rattle.meaning.specs.Machine.{State}
 use Rattle.meaning.specs.Lent.{stateOf, lentOf, statePasses}
 use Rattle.meaning.specs.Check.{Check, firstFailing, verdictOf}
@@ -18,7 +19,17 @@ use Rattle.meaning.specs.declared.Refusal.the-variants as R
 use Rattle.meaning.specs.declared.Verdict.the-variants.{Accepted, Refused}
 use Rattle.machine.specs.Held.{Scanned}
 use Rattle.lent.specs.declared.Ran.the-variants as A
-use Rattle.lent.specs.Slice.{laterVerdict, answer, left, LentRun}
+use Rattle.lent.specs.Slice.{Room, laterVerdict, answer, left, LentRun}
+
+-- slices of n places a state, all 0
+pub zero-room : (c : Tables) (n : ℕ) (asks : List ℕ) → stateCount c ≤ n → moveCount c ≤ length asks / 4 → Room c (replicate n 0) (replicate n 0) (replicate n 0) (replicate n 0) asks
+zero-room c n asks h k = record {
+  state = record { wantsRoom = room; memoryRoom = room; timersRoom = refl; runsRoom = room; noMemory = getD-equal 0 n; noRuns = getD-equal 0 n };
+  scans = record { showsRoom = room; asksRoom = k; noShows = getD-equal 0 n };
+}
+  where
+    room : stateCount c ≤ length (replicate {A = ℕ} n 0)
+    room = rw (length-replicate {A = ℕ} n 0) h
 
 -- a check of one row
 pub one-row : (f : ℕ → Refusal) (b : Bool) (ks : List Check) → verdictOf (record { refusal = f; rows = 1; passes = λ i. b } ∷ ks) ≡ cond b (verdictOf ks) (Refused (f 0))
@@ -44,11 +55,13 @@ module _ (c : Tables) (xs l ls os : List ℕ) where
   pub refused-state : statePasses c l ≡ false → LentRun c xs l ls os (A.Refused R.State) l ls os
   refused-state e = refused R.State (later ∙ rw e)
 
-  pub refused-leaves : statePasses c l ≡ true → length ls ≢ length xs → LentRun c xs l ls os (A.Refused R.Scans) l ls os
-  refused-leaves e n = refused R.Scans (later ∙ rw (e, ne-eqb (length ls) (length xs) n))
-
-  pub refused-outputs : statePasses c l ≡ true → length ls ≡ length xs → length os ≢ length xs → LentRun c xs l ls os (A.Refused R.Scans) l ls os
-  refused-outputs e p n = refused R.Scans (later ∙ rw (e, eq-eqb (length ls) (length xs) p, ne-eqb (length os) (length xs) n))
+  pub refused-scans : statePasses c l ≡ true → (eqb (length ls) (length xs) && eqb (length os) (length xs)) ≡ false → LentRun c xs l ls os (A.Refused R.Scans) l ls os
+  refused-scans e n = refused R.Scans (later ∙ rw e (one-differs (eqb (length ls) (length xs)) (eqb (length os) (length xs)) n))
+    where
+      one-differs : (a b : Bool) → (a && b) ≡ false → cond a (cond b Accepted (Refused R.Scans)) (Refused R.Scans) ≡ Refused R.Scans
+      one-differs true true z = absurd (true≢false z)
+      one-differs true false z = refl
+      one-differs false b z = refl
 
   pub done : statePasses c l ≡ true → length ls ≡ length xs → length os ≡ length xs → (s : State) (l′ ls′ os′ : List ℕ)
       → Scanned c (stateOf c l) xs s ls′ os′ → l′ ≡ lentOf c s → LentRun c xs l ls os (A.Done (length xs)) l′ ls′ os′

@@ -21,37 +21,11 @@ use Rattle.format.specs.Decode.{inputFits, blockFits, instruction}
 use Rattle.format.specs.DecodeLaws.{within, in-range}
 use Rattle.format.specs.Lines.{leading, timerOperand, operandIn, operatorIn, lineIn, lineText, lineFits, said}
 use Rattle.format.specs.LineLaws.{said-is, said-none}
-use Rattle.line.specs.declared.Number.the-variants as N
-use Rattle.line.specs.declared.Named.the-variants as O
-use Rattle.line.specs.Forms.{Same, Spells, Names, Stores, Puts, Others, operatorByte, lineByte}
-
--- ---- what tests are on
-
-module _ {l : List ℕ} {n : ℕ} where
-  pub tests-mx : Spells (bytes "%MX") [] 0 255 l (N.Is n) → Names [] (testable 32) l (O.Is (Mx n))
-  unfolding testable operandText
-  tests-mx s = (le-leb n 255 (s .1), ap (λ x. bytes "%MX" ++ x) (sym (append-nil (decimal n))) ∙ s .2)
-
-  pub tests-ix : Spells (bytes "%IX") [] 1 64 l (N.Is n) → Names [] (testable 32) l (O.Is (Ix n))
-  unfolding testable operandText
-  tests-ix s = (in-range 1 64 n (s .0) (s .1), ap (λ x. bytes "%IX" ++ x) (sym (append-nil (decimal n))) ∙ s .2)
-
-  pub tests-q : Spells (bytes "T") (bytes ".Q") 1 32 l (N.Is n) → Names [] (testable 32) l (O.Is (TimerQ n))
-  unfolding testable operandText
-  tests-q s = (in-range 1 32 n (s .0) (s .1), s .2)
-
-module _ {l : List ℕ} (mx : Spells (bytes "%MX") [] 0 255 l N.Nothing) (ix : Spells (bytes "%IX") [] 1 64 l N.Nothing) (q : Spells (bytes "T") (bytes ".Q") 1 32 l N.Nothing) where
-  pub tests-none : Names [] (testable 32) l O.Nothing
-  unfolding testable operandText
-  tests-none (Mx n) f e = mx n (omega arith) (leb-true n 255 f) (ap (λ x. bytes "%MX" ++ x) (append-nil (decimal n)) ∙ e)
-  tests-none (Ix n) f e = ix n (within 1 64 n f .0) (within 1 64 n f .1) (ap (λ x. bytes "%IX" ++ x) (append-nil (decimal n)) ∙ e)
-  tests-none (Qx n) f e = false≢true f
-  tests-none (TimerQ n) f e = q n (within 1 32 n f .0) (within 1 32 n f .1) e
-  tests-none (TimerIn n) f e = false≢true f
-  tests-none (TimerPt n) f e = false≢true f
-  tests-none (Timer n) f e = false≢true f
-  tests-none False f e = false≢true f
-  tests-none True f e = false≢true f
+use Rattle.decimals.specs.declared.Number.the-variants as N
+use Rattle.operands.specs.declared.Named.the-variants as O
+use Rattle.decimals.specs.Forms.{Same, Spells}
+use Rattle.operands.specs.Names.{Names}
+use Rattle.line.specs.Forms.{Stores, Puts, Others, operatorByte, lineByte}
 
 -- ---- what ends a rung
 

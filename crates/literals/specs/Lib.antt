@@ -1,3 +1,2 @@
-pub mod Words
-pub mod WordsLaws
+pub mod PlaceLaws
 pub mod Once

@@ -1,40 +1,15 @@
-// What the literals of a move ask for, as words: refusals 8, LITERAL, and 10, OVERLAP.
+// The rules that the literals of a move are held to: document 01's refusal 8, LITERAL.
+use asks::Asks;
 use meaning::Kind;
 ghost use mathlib.Core.Path.{_≡_};
 ghost use mathlib.Core.Bool.{true, not, _&&_, _||_};
-ghost use Prim.Native.Nat.{ℕ, suc, _+_, _<_, _≤_, _/_};
+ghost use Prim.Native.Nat.{ℕ, suc, _<_, _≤_, _/_};
 ghost use lib.ListN.{length};
-ghost use lib.IntN.{ℤ, natAbs};
-ghost use lib.Dec.{eqb};
+ghost use lib.IntN.{natAbs};
 ghost use Rattle.meaning.specs.Tables.{Tables, timerCount, literal};
-ghost use Rattle.meaning.specs.Literals.{kindOf, wanted, inputOn};
-ghost use Rattle.meaning.specs.Check.{withinCounts, placePasses, literalPasses, overlapPasses};
-ghost use Rattle.rules.specs.Falling.{Falling};
-ghost use Rattle.literals.specs.Words.{four, Asked, Adds, WordsTo, sharedAt};
-
-// The inputs that the places of a move so far ask to be on and to be off, and the timers to be expired and not to be:
-// number n is the bit of weight 2^(n-1). Whether one of the places is unused, and whether all pass.
-pub struct Asks {
-    pub on: u64,
-    pub off: u64,
-    pub expired: u64,
-    pub unexpired: u64,
-    pub ended: bool,
-    pub passes: bool,
-}
-
-// The word with number n too; a number that no word has a bit for is passed over.
-fn with(w: u64, n: u16) -> u64
-    ensures { λ r. ⌜ (1 ≤ n → n ≤ 64 → (m : ℕ) → 1 ≤ m → inputOn r m ≡ (inputOn w m || eqb n m)) ⌝ }
-{
-    if n < 1 {
-        return w;
-    }
-    if 64 < n {
-        return w;
-    }
-    w | 1u64 << n - 1
-}
+ghost use Rattle.meaning.specs.Literals.{kindOf, inputOn};
+ghost use Rattle.meaning.specs.Check.{placePasses, literalPasses};
+ghost use Rattle.asks.specs.Words.{Asked, WordsTo};
 
 // Whether number n may follow: no unused place before it, and not one thing twice.
 fn free(ended: bool, p: u64, q: u64, n: u16) -> bool
@@ -74,52 +49,6 @@ fn kind_passes(a: Asks, inputs: u32, timers: usize, kind: Kind) -> bool
     }
 }
 
-fn end(a: Asks) -> Asks
-    ensures { λ r. ⌜ ((z : ℤ) → natAbs z ≡ 0 → Adds a z r) ⌝ }
-{
-    let mut r = a;
-    r.ended = true;
-    r
-}
-
-fn ask_input(a: Asks, want: bool, n: u16) -> Asks
-    ensures { λ r. ⌜ ((z : ℤ) → want ≡ wanted z → natAbs z ≡ n → 1 ≤ n → n ≤ 64 → Adds a z r) ⌝ }
-{
-    let mut r = a;
-    if want {
-        r.on = with(a.on, n);
-        return r;
-    }
-    r.off = with(a.off, n);
-    r
-}
-
-fn ask_timer(a: Asks, want: bool, n: u16) -> Asks
-    ensures { λ r. ⌜ ((z : ℤ) → want ≡ wanted z → natAbs z ≡ 100 + n → 1 ≤ n → n ≤ 64 → Adds a z r) ⌝ }
-{
-    let mut r = a;
-    if want {
-        r.expired = with(a.expired, n);
-        return r;
-    }
-    r.unexpired = with(a.unexpired, n);
-    r
-}
-
-// What a literal asks for, beside what those before it do: "a negative number asks for the same thing to be off".
-fn ask(a: Asks, want: bool, kind: Kind) -> Asks
-    ensures { λ r. ⌜ ((c : Tables) (z : ℤ) → want ≡ wanted z → kind ≡ kindOf (natAbs z) → withinCounts c kind ≡ true → Adds a z r) ⌝ }
-{
-    match kind {
-        Kind::Unused => end(a),
-        Kind::Input(n) => ask_input(a, want, n),
-        Kind::Timer(n) => ask_timer(a, want, n),
-        Kind::Unknown => a,
-    }
-}
-
-// ---- 8 LITERAL
-
 // What move i asks for, and whether it passes; where it does not, the words are those of the places before.
 fn asks_of(inputs: u32, timers: usize, moves: &[i16], i: usize) -> Asks
     ensures { λ r. ⌜ ((c : Tables) → c .inputs ≡ inputs → timerCount c ≡ timers → c .moves ≡ now (moves .entry) → (r .passes ≡ literalPasses c i) × (r .passes ≡ true → Asked c i 8 r)) ⌝ }
@@ -140,22 +69,10 @@ fn asks_of(inputs: u32, timers: usize, moves: &[i16], i: usize) -> Asks
             a.passes = false;
             return a;
         }
-        a = ask(a, tables::wanted(v), kind);
+        a = asks::ask(a, tables::wanted(v), kind);
         k += 1;
     }
     a
-}
-
-fn put_words(words: &mut [u64], i: usize, a: Asks)
-    ensures { λ _. ⌜ (i < length (now (words .entry)) / 4 → now (words .exit) ≡ four (now (words .entry)) i (a .on) (a .off) (a .expired) (a .unexpired)) ⌝ }
-{
-    if words.len() / 4 <= i {
-        return;
-    }
-    words[4 * i] = a.on;
-    words[4 * i + 1] = a.off;
-    words[4 * i + 2] = a.expired;
-    words[4 * i + 3] = a.unexpired;
 }
 
 // Whether move i passes; what it asks for is kept, four words a move.
@@ -171,56 +88,6 @@ pub fn literal_passes(
         → (r ≡ literalPasses c i) × (r ≡ true → i < length (now (words .entry)) / 4 → WordsTo c i (now (words .entry)) → WordsTo c (suc i) (now (words .exit)))) ⌝ }
 {
     let a = asks_of(inputs, timers, moves, i);
-    put_words(words, i, a);
+    asks::put_words(words, i, a);
     a.passes
-}
-
-// ---- 10 OVERLAP
-
-// Whether some setting of inputs and of timers, "taken as free", fits both move j and one that asks for these: neither
-// asks for on what the other asks for off.
-fn agree(words: &[u64], j: usize, on: u64, off: u64, expired: u64, unexpired: u64) -> bool
-    ensures { λ r. ⌜ (j < length (now (words .entry)) / 4 → r ≡ eqb (sharedAt on off expired unexpired (now (words .entry)) j) 0) ⌝ }
-{
-    if words.len() / 4 <= j {
-        return false;
-    }
-    let at = 4 * j;
-    if on & words[at + 1] != 0 {
-        return false;
-    }
-    if off & words[at] != 0 {
-        return false;
-    }
-    if expired & words[at + 3] != 0 {
-        return false;
-    }
-    unexpired & words[at + 2] == 0
-}
-
-// "an earlier move overlaps it". The words come first: they tell most pairs of moves apart, and cost less than the
-// way up from a source.
-pub fn overlap_passes(states: &[u16], moves: &[i16], words: &[u64], i: usize) -> bool
-    ensures { λ r. ⌜ ((c : Tables) → c .states ≡ now (states .entry) → c .moves ≡ now (moves .entry) → Falling c → literalPasses c i ≡ true → i < length (now (words .entry)) / 4
-        → WordsTo c (suc i) (now (words .entry)) → r ≡ overlapPasses c i) ⌝ }
-{
-    if words.len() / 4 <= i {
-        return false;
-    }
-    let at = 4 * i;
-    let on = words[at];
-    let off = words[at + 1];
-    let expired = words[at + 2];
-    let unexpired = words[at + 3];
-    let s = tables::source(moves, i);
-    let mut j = 0;
-    while j < i {
-        if agree(words, j, on, off, expired, unexpired) {
-            if rules::near(states, s, tables::source(moves, j)) {
-                return false;
-            }
-        }
-        j += 1;
-    }
-    true
 }

@@ -1,26 +1,18 @@
 -- The machine's state as the code holds it, and what a run of it leaves.
 use mathlib.Core.Path.{_≡_}
-use Prim.Native.Nat.{ℕ, _+_, _*_, _-_, _/_, _≤_, _<_, min}
-use mathlib.Core.Bool.{Bool, cond}
+use Prim.Native.Nat.{ℕ, _/_, _≤_, _<_}
 use mathlib.Core.List.{List, map}
 use lib.ListN.{length, getD, take}
 use lib.IntN.{ℤ}
 use Rattle.meaning.specs.Tables.{Tables, stateCount, moveCount, timerCount}
 use Rattle.meaning.specs.Machine.{State, Seen, trace, after}
 use Rattle.paths.specs.Words.{Worded}
-use Rattle.moving.specs.Moves.{LinkedTo, AskedTo}
+use Rattle.choosing.specs.Choice.{LinkedTo, AskedTo}
+use Rattle.timers.specs.Times.{longest}
 
 -- the state that is held in an array of sub-states and an array of values
 abbrev pub held : Tables → List ℕ → List ℕ → State
 held c m ts = record { memory = take (stateCount c) m; timers = take (timerCount c) ts }
-
--- N scan steps, for a preset p and the scan step d
-abbrev pub longest : ℕ → ℕ → ℕ
-longest d p = (p + d - 1) / d * d
-
--- a value after a step of d ms, up to m, for a timer that ran before and runs after, or not
-abbrev pub grown : ℕ → ℕ → Bool → ℕ → ℕ
-grown d m b v = cond b (min (v + d) m) 0
 
 -- what is made once for all scans: of each state the timers that run in it, the moves by their source, the literals as words, N scan steps of each timer
 pub record Made (c : Tables) (runs links asks most : List ℕ) : Type 0 where

@@ -1,19 +1,16 @@
--- No second answer of either function of this crate, on tables that keep the rules and valid states. Of memory and timers those of the chart are seen.
+-- No second answer of the function of this crate, on tables that keep the rules and valid states. Of memory and timers those of the chart are seen.
 use mathlib.Core.Path.{_≡_, sym, _∙_}
 use mathlib.Core.List.{List}
 use Prim.Native.Nat.{ℕ, _≤_}
 use lib.ListN.{length}
 use lib.IntN.{ℤ}
-use Rattle.meaning.specs.Once.{Once, OnceSeen, is-once, three}
+use Rattle.meaning.specs.Once.{OnceSeen, three}
 use Rattle.meaning.specs.Tables.{Tables, stateCount}
 use Rattle.meaning.specs.Rules.{Rules}
 use Rattle.meaning.specs.Machine.{State, Valid}
 use Rattle.tables.specs.declared.Chart.{Chart}
 use Rattle.paths.specs.Words.{Worded}
-use Rattle.machine.specs.Held.{Given, Empty, Scanned, held, longest}
-
-pub longest-once : (d p : ℕ) → Once (λ r. r ≡ longest d p)
-longest-once d p = is-once (longest d p)
+use Rattle.machine.specs.Held.{Given, Empty, Scanned, held}
 
 pub run-once : (c : Tables) (h : Chart) (ss : List ℕ) (ms : List ℤ) (ps os rs ws qs m t xs leaves outputs : List ℕ)
     → Given c (h .step) (h .outputs) ss ms ps (c .timerPairs) os → Rules c → Worded c (c .timerPairs) rs → Empty c ws qs → stateCount c ≤ length m → length t ≡ 32

@@ -19,8 +19,9 @@ use Rattle.meaning.specs.MachineLaws.{Sound, valid-sound, after-step, moved-sou
 use Rattle.pairing.specs.Words.{Tree, PairedWords}
 use Rattle.paths.specs.Words.{expiredAt, Worded}
 use Rattle.paths.specs.FlagsLaws.{is-table}
-use Rattle.moving.specs.Moves.{read}
-use Rattle.machine.specs.Held.{Scanned, held, longest, grown}
+use Rattle.choosing.specs.Choice.{read}
+use Rattle.machine.specs.Held.{Scanned, held}
+use Rattle.timers.specs.Times.{longest, grown}
 
 -- the words of what is paired, as the check makes them, are those that the scan reads
 pub rules-tree : (c : Tables) → Rules c → Tree c

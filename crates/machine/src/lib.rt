@@ -2,87 +2,15 @@
 use tables::Chart;
 ghost use mathlib.Core.Path.{_≡_};
 ghost use mathlib.Core.Bool.{cond};
-ghost use Prim.Native.Nat.{ℕ, suc, _<_, _≤_};
-ghost use lib.ListN.{length, getD, set, take};
+ghost use Prim.Native.Nat.{_≤_};
+ghost use lib.ListN.{length, take};
 ghost use lib.Dec.{ltb};
 ghost use Rattle.meaning.specs.Tables.{Tables, stateCount, moveCount};
 ghost use Rattle.meaning.specs.Rules.{Rules};
-ghost use Rattle.meaning.specs.Literals.{inputOn};
-ghost use Rattle.meaning.specs.Machine.{activeLeaf, moved, step, seenAt, Valid};
+ghost use Rattle.meaning.specs.Machine.{activeLeaf, moved, step, Valid};
 ghost use Rattle.meaning.specs.MachineLaws.{Sound};
 ghost use Rattle.paths.specs.Words.{Worded};
-ghost use Rattle.machine.specs.Held.{Given, Made, Empty, Scanned, held, longest, grown};
-
-// N scan steps in ms: no sum or product of 32-bit numbers wraps here.
-pub fn longest(step: u32, preset: u32) -> u64
-    ensures { λ r. ⌜ r ≡ longest step preset ⌝ }
-{
-    if step < 1 {
-        return 0;
-    }
-    let d = step as u64;
-    ((preset as u64) + d - 1) / d * d
-}
-
-// N scan steps of each timer, once for all scans.
-fn longest_of(step: u32, presets: &[u32]) -> [u32; 32]
-    ensures { λ r. ⌜ (length (now (presets .entry)) ≤ 32 → 1 ≤ step → (i : ℕ) → i < length (now (presets .entry)) → longest step (getD (now (presets .entry)) i 0) < 4294967296
-        → getD r i 0 ≡ longest step (getD (now (presets .entry)) i 0)) ⌝ }
-{
-    let mut most = [0u32; 32];
-    if Chart::TIMERS < presets.len() {
-        return most;
-    }
-    let mut i = 0;
-    while i < presets.len() {
-        most[i] = (longest(step, presets[i]) % 4294967296) as u32;
-        i += 1;
-    }
-    most
-}
-
-// "after a step it grows by the scan step if it ran before and runs after, else it is 0"; "A stored timer value stops
-// growing at N scan steps."
-fn grown(step: u32, most: u32, goes_on: bool, value: u32) -> u32
-    ensures { λ r. ⌜ r ≡ grown step most «goes_on» value ⌝ }
-{
-    if !goes_on {
-        return 0;
-    }
-    let next = (value as u64) + (step as u64);
-    if (most as u64) < next {
-        return most;
-    }
-    next as u32
-}
-
-fn time_row(step: u32, most: &[u32], goes_on: u64, i: usize, timers: &mut [u32])
-    requires { ⌜ i < 64 ⌝ }
-    ensures { λ _. ⌜ now (timers .exit) ≡ set (now (timers .entry)) i (grown step (getD (now (most .entry)) i 0) (inputOn «goes_on» (suc i)) (getD (now (timers .entry)) i 0)) ⌝ }
-{
-    if i < timers.len() {
-        timers[i] = grown(
-            step,
-            paths::value(most, i),
-            paths::bit_at(goes_on, i),
-            timers[i],
-        );
-    }
-}
-
-fn time(step: u32, most: &[u32], goes_on: u64, count: usize, timers: &mut [u32])
-    ensures { λ _. ⌜ (count ≤ 32 → count ≤ length (now (timers .entry)) → (i : ℕ) → i < count
-        → getD (now (timers .exit)) i 0 ≡ grown step (getD (now (most .entry)) i 0) (inputOn «goes_on» (suc i)) (getD (now (timers .entry)) i 0)) ⌝ }
-{
-    if Chart::TIMERS < count {
-        return;
-    }
-    let mut i = 0;
-    while i < count {
-        time_row(step, most, goes_on, i, timers);
-        i += 1;
-    }
-}
+ghost use Rattle.machine.specs.Held.{Given, Made, Empty, Scanned, held};
 
 // The leaf after move i from the leaf l: "with none, the state stays".
 fn leaf_after(states: &[u16], moves: &[i16], i: usize, l: usize, memory: &mut [u16]) -> usize
@@ -123,9 +51,9 @@ fn scan(
 {
     let ran = paths::word(runs, l);
     let y = paths::expired_of(presets, ran, timers);
-    let i = moving::chosen(states, moves, links, asks, l, x, y);
+    let i = choosing::chosen(states, moves, links, asks, l, x, y);
     let next = leaf_after(states, moves, i, l, memory);
-    time(
+    timers::time(
         chart.step,
         most,
         ran & paths::word(runs, next),
@@ -133,23 +61,6 @@ fn scan(
         timers,
     );
     next
-}
-
-fn put_word(words: &mut [u64], i: usize, w: u64)
-    ensures { λ _. ⌜ now (words .exit) ≡ set (now (words .entry)) i w ⌝ }
-{
-    if i < words.len() {
-        words[i] = w;
-    }
-}
-
-// What is seen in the leaf l stands at place i of the results.
-fn show(shows: &[u64], l: usize, i: usize, leaves: &mut [u16], outputs: &mut [u64])
-    ensures { λ _. ⌜ ((c : Tables) → Rules c → Worded c (c .outputPairs) (now (shows .entry)) → l < stateCount c
-        → (now (leaves .exit) ≡ set (now (leaves .entry)) i l) × (now (outputs .exit) ≡ set (now (outputs .entry)) i (seenAt c l .outputs))) ⌝ }
-{
-    moving::remember(leaves, i, l);
-    put_word(outputs, i, paths::word(shows, l));
 }
 
 // The scans, one after the other.
@@ -192,7 +103,7 @@ fn run_made(
             l,
             inputs[i],
         );
-        show(shows, l, i, leaves, outputs);
+        seen::show(shows, l, i, leaves, outputs);
         i += 1;
     }
 }
@@ -222,10 +133,10 @@ pub fn run(
         → Scanned c (held c (now (memory .entry)) (now (timers .entry))) (now (inputs .entry)) (held c (now (memory .exit)) (now (timers .exit))) (now (leaves .exit)) (now (outputs .exit))) ⌝ }
 {
     pairing::paired_words(states, output_pairs, shows);
-    moving::make_asks(moves, asks);
+    choosing::make_asks(moves, asks);
     let mut links = [0u16; 768];
-    moving::make_links(moves, &mut links);
-    let most = longest_of(chart.step, presets);
+    choosing::make_links(moves, &mut links);
+    let most = timers::longest_of(chart.step, presets);
     run_made(
         chart,
         states,

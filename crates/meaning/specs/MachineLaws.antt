@@ -1,11 +1,11 @@
 -- The machine of an accepted chart: its states stay valid, and a step looks at no input bit beyond the count.
 use mathlib.Core.Path.{_≡_, refl, sym, ap, _∙_}
 use mathlib.Core.Logic.{inl, inr}
-use Prim.Native.Nat.{ℕ, zero, suc, _*_, _-_, _≤_, _<_}
+use Prim.Native.Nat.{ℕ, zero, suc, _+_, _*_, _-_, _≤_, _<_, min}
 use native.Mathlib.Nat.{zero-add, zero-mul, mul-le-mul-right}
 use native.Mathlib.Omega.{arith}
 use native.Mathlib.Decide.{decLe}
-use mathlib.Core.Bool.{true, false, _&&_, Bool·beq, and-false}
+use mathlib.Core.Bool.{Bool, true, false, _&&_, cond, Bool·beq, and-false}
 use mathlib.Core.List.{List, [], _∷_, _++_}
 use lib.ListN.{length}
 use lib.IntN.{ℤ, natAbs}
@@ -53,16 +53,25 @@ after-step c x s P p q =
     let i = chosen c (setting c x s) (activeLeaf c (s .memory)) in
     elim (which (ltb i (moveCount c))) [ inl e ↦ rw e (q i (ltb-true i (moveCount c) e)) | inr e ↦ rw e p ]
 
--- a value of so many whole scan steps is one after a step too
-timed-whole : (c : Tables) (l l′ : ℕ) (ts : List ℕ) (t : ℕ) → (k : ℕ) × (k ≤ steps c t) × (timerValue ts t ≡ k * c .step) → (k : ℕ) × (k ≤ steps c t) × (timed c l l′ ts t ≡ k * c .step)
-unfolding timed
-timed-whole c l l′ ts t (k, h, e) = elim (which (runs c t l && runs c t l′)) [
-  | inl f ↦ elim (decLe (suc k) (steps c t)) [
-    | yes g ↦ (suc k, g, rw (f, e) (omega (arith, mul-le-mul-right (c .step) g)))
-    | no g ↦ (steps c t, omega arith, rw (f, e) (let z : steps c t ≡ k = omega arith in rw z (omega arith)))
+-- "after a step it grows by the scan step if it ran before and runs after, else it is 0"
+module _ (c : Tables) (l l′ : ℕ) (ts : List ℕ) (t : ℕ) where
+  timed-on : (runs c t l && runs c t l′) ≡ true → timed c l l′ ts t ≡ min (timerValue ts t + c .step) (steps c t * c .step)
+  unfolding timed
+  timed-on e = ap (λ (b : Bool). cond b (min (timerValue ts t + c .step) (steps c t * c .step)) 0) e
+
+  timed-off : (runs c t l && runs c t l′) ≡ false → timed c l l′ ts t ≡ 0
+  unfolding timed
+  timed-off e = ap (λ (b : Bool). cond b (min (timerValue ts t + c .step) (steps c t * c .step)) 0) e
+
+  -- a value of so many whole scan steps is one after a step too
+  timed-whole : (k : ℕ) × (k ≤ steps c t) × (timerValue ts t ≡ k * c .step) → (k : ℕ) × (k ≤ steps c t) × (timed c l l′ ts t ≡ k * c .step)
+  timed-whole (k, h, e) = elim (which (runs c t l && runs c t l′)) [
+    | inl f ↦ elim (decLe (suc k) (steps c t)) [
+      | yes g ↦ (suc k, g, rw (timed-on f, e) (omega (arith, mul-le-mul-right (c .step) g)))
+      | no g ↦ (steps c t, omega arith, rw (timed-on f, e) (let z : steps c t ≡ k = omega arith in rw z (omega arith)))
+    ]
+    | inr f ↦ (0, omega arith, rw (timed-off f, zero-mul))
   ]
-  | inr f ↦ (0, omega arith, rw (f, zero-mul))
-]
 
 -- ---- a memory
 

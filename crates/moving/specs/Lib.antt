@@ -1,5 +1,3 @@
 pub mod Moves
 pub mod EnterLaws
-pub mod AskLaws
-pub mod LinkLaws
 pub mod Once

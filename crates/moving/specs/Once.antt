@@ -1,40 +1,16 @@
--- No second answer of any function of this crate, on tables that keep the rules. Of the words of the moves it is seen which moves hold by them;
--- entries past the chart's states and moves are not seen.
-use mathlib.Core.Path.{_≡_, sym, ap, _∙_}
+-- No second answer of either function of this crate: of what is remembered where 16 bits hold it, and of a move on tables that keep the rules.
+-- Entries past the chart's states are not seen.
+use mathlib.Core.Path.{_≡_, sym, _∙_}
 use mathlib.Core.Bool.{cond}
 use mathlib.Core.List.{List}
-use Prim.Native.Nat.{ℕ, _+_, _-_, _/_, _^_, _<_, _≤_}
-use native.Mathlib.Omega.{arith}
-use native.Mathlib.Decide.{decLe}
-use lib.ListN.{length, getD, set, take}
+use Prim.Native.Nat.{ℕ, _<_, _≤_}
+use lib.ListN.{length, set, take}
 use lib.IntN.{ℤ}
 use lib.Dec.{ltb}
-use Rattle.meaning.specs.Once.{Once, OnceSeen, is-once}
+use Rattle.meaning.specs.Once.{Once, OnceSeen}
 use Rattle.meaning.specs.Tables.{Tables, stateCount, moveCount}
 use Rattle.meaning.specs.Rules.{Rules}
-use Rattle.meaning.specs.Machine.{chosen, moved}
-use Rattle.moving.specs.Moves.{read, holdingAt, AskedTo, LinkedTo}
-
-pub make-asks-once : (c : Tables) (ms : List ℤ) (l : List ℕ) (i x y : ℕ) → c .moves ≡ ms → Rules c → moveCount c ≤ length l / 4 → i < moveCount c → x < 2 ^ 64 → y < 2 ^ 64
-    → OnceSeen (λ m. holdingAt x y m i) (λ m. (k : Tables) → k .moves ≡ ms → Rules k → moveCount k ≤ length l / 4 → AskedTo k (moveCount k) m)
-make-asks-once c ms l i x y e f g h a b m n p q = p c e f g i x y h a b ∙ sym (q c e f g i x y h a b)
-
--- links that are the same up to the last move's
-same-links : (c : Tables) (m n : List ℕ) (i : ℕ) → i < 256 + moveCount c → LinkedTo c (moveCount c) m → LinkedTo c (moveCount c) n → getD m i 0 ≡ getD n i 0
-same-links c m n i h p q = elim (decLe 256 i) [
-  | yes g ↦ (let z : i ≡ 256 + (i - 256) = omega arith in rw z (p .1 (i - 256) (omega arith) ∙ sym (q .1 (i - 256) (omega arith))))
-  | no g ↦ p .0 i (omega arith) ∙ sym (q .0 i (omega arith))
-]
-
-pub make-links-once : (c : Tables) (ms : List ℤ) (l : List ℕ) (i : ℕ) → c .moves ≡ ms → Rules c → 768 ≤ length l → ((s : ℕ) → getD l s 0 ≡ 0) → i < 256 + moveCount c
-    → OnceSeen (λ m. getD m i 0) (λ m. (k : Tables) → k .moves ≡ ms → Rules k → 768 ≤ length l → ((s : ℕ) → getD l s 0 ≡ 0) → LinkedTo k (moveCount k) m)
-make-links-once c ms l i e f g z h m n p q = same-links c m n i h (p c e f g z) (q c e f g z)
-
-pub chosen-once : (c : Tables) (ss : List ℕ) (ms : List ℤ) (links asks : List ℕ) (l x y : ℕ) → c .states ≡ ss → c .moves ≡ ms → Rules c
-    → LinkedTo c (moveCount c) links → AskedTo c (moveCount c) asks → moveCount c ≤ length asks / 4 → l < 256
-    → Once (λ r. (k : Tables) → k .states ≡ ss → k .moves ≡ ms → Rules k → LinkedTo k (moveCount k) links → AskedTo k (moveCount k) asks → moveCount k ≤ length asks / 4 → l < 256
-    → r ≡ chosen k (read x y) l)
-chosen-once c ss ms links asks l x y e f g h i j k r s p q = p c e f g h i j k ∙ sym (q c e f g h i j k)
+use Rattle.meaning.specs.Machine.{moved}
 
 pub remember-once : (m : List ℕ) (a s : ℕ) → s < 65536 → Once (λ n. s < 65536 → n ≡ set m a s)
 remember-once m a s h x y p q = p h ∙ sym (q h)

@@ -14,6 +14,9 @@ use Rattle.format.specs.declared.Reading.{Reading}
 use Rattle.format.specs.Phases.{begin, step, alive, mayEnd}
 use Rattle.format.specs.Lines.{on, turned, goneOn, turn}
 
+pub next-block : (n b : ℕ) → n ≤ 32 → eqb n (suc b) ≡ (eqb n (suc b) && leb n 32)
+next-block n b h = rw (le-leb n 32 h, and-true)
+
 module _ (s : Page) (b : Bool) (t : Page) where
   pub turn-header : b ≡ on Title s → t ≡ turned Headed s → goneOn b t s ≡ turn s Header
   unfolding turn

@@ -101,7 +101,7 @@ fn end_var(p: Page) -> Page
     if n == 0 {
         return turned(Stage::Broken, p);
     }
-    let r = phases::begin(n, n);
+    let r = phase::begin(n, n);
     let next = Page {
         stage: Stage::Rungs,
         blocks: n,
@@ -113,13 +113,13 @@ fn end_var(p: Page) -> Page
 fn say(p: Page, i: Operator) -> Page
     ensures { λ r. ⌜ r ≡ Lines.turn p (Line.Says i) ⌝ }
 {
-    let r = phases::step(p.reading, i);
+    let r = following::step(p.reading, i);
     let next = Page {
         stage: Stage::Rungs,
         blocks: p.blocks,
         reading: r,
     };
-    if phases::alive(r) {
+    if phase::alive(r) {
         return gone_on(is_running(p), next, p);
     }
     turned(Stage::Broken, p)
@@ -128,7 +128,7 @@ fn say(p: Page, i: Operator) -> Page
 fn end(p: Page) -> Page
     ensures { λ r. ⌜ r ≡ Lines.turn p Line.EndProgram ⌝ }
 {
-    if phases::may_end(p.reading) {
+    if phase::may_end(p.reading) {
         return gone_on(is_running(p), turned(Stage::Ended, p), p);
     }
     turned(Stage::Broken, p) // the last rung is not complete
@@ -138,7 +138,7 @@ fn end(p: Page) -> Page
 pub fn first() -> Page
     ensures { λ r. ⌜ r ≡ Lines.firstPage ⌝ }
 {
-    let r = phases::begin(0, 0);
+    let r = phase::begin(0, 0);
     Page {
         stage: Stage::Title,
         blocks: 0,

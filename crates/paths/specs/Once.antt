@@ -1,10 +1,9 @@
 -- No second answer of any function of this crate. Words past the chart's states, and bits past its presets, are not seen.
 use mathlib.Core.Path.{_≡_, sym, _∙_}
 use mathlib.Core.List.{List}
-use Prim.Native.Nat.{ℕ, suc, _<_, _≤_, _^_}
+use Prim.Native.Nat.{ℕ, suc, _<_, _≤_}
 use lib.ListN.{length, getD}
-use lib.Bits.{bitOr}
-use Rattle.meaning.specs.Once.{Once, OnceSeen, is-once, Words}
+use Rattle.meaning.specs.Once.{Once, OnceSeen, is-once}
 use Rattle.meaning.specs.Machine.{remembered}
 use Rattle.meaning.specs.Literals.{inputOn}
 use Rattle.paths.specs.Flags.{on, walk}
@@ -24,9 +23,6 @@ value-once vs i = is-once (getD vs i 0)
 
 pub bit-at-once : (w i : ℕ) → Once (λ r. r ≡ inputOn w (suc i))
 bit-at-once w i = is-once (inputOn w (suc i))
-
-pub with-bit-once : (w i : ℕ) → Once (λ r. r ≡ bitOr w (2 ^ i))
-with-bit-once w i = is-once (bitOr w (2 ^ i))
 
 pub expired-of-once : (ps : List ℕ) (w : ℕ) (ts : List ℕ) (k : ℕ) → length ps ≤ 32 → k < length ps
     → OnceSeen (λ r. inputOn r (suc k)) (λ r. length ps ≤ 32 → (i : ℕ) → i < length ps → inputOn r (suc i) ≡ expiredAt ps w ts i)

@@ -1,5 +1,5 @@
 -- Bits of words, and the word of the outputs that are on.
-use mathlib.Core.Path.{_≡_, refl, sym, ap, ap₂, _∙_}
+use mathlib.Core.Path.{_≡_, sym, ap, _∙_}
 use mathlib.Core.Logic.{_⊎_, inl, inr}
 use Prim.Native.Nat.{ℕ, zero, suc, _+_, _*_, _-_, _/_, _%_, _^_, _≤_, _<_, min, max}
 use native.Mathlib.Omega.{arith}
@@ -9,7 +9,7 @@ use mathlib.Core.Bool.{Bool, true, false, not, cond, _&&_, _||_, and-true, and-f
 use lib.ListN.{getD, List·getD-eq-default}
 use lib.Dec.{eqb}
 use lib.Pow.{pow-lt, pow-pos}
-use lib.Bits.{bitOr, bitAnd, or-step, or-shr, and-shr, and-step, and-zero-r}
+use lib.Bits.{bitOr, bitAnd, or-step, or-shr, and-shr, and-step}
 use borrow.Author.Tests.{eq-eqb, ne-eqb}
 use Rattle.meaning.specs.Literals.{inputOn}
 use Rattle.meaning.specs.BitLaws.{low-bit, half-bit}
@@ -122,59 +122,6 @@ word-is f i (suc n) w h g =
 -- x has none of the bits of w
 abbrev pub none : ℕ → ℕ → Bool
 none x w = eqb (bitAnd x w) 0
-
-double-none : (p q : ℕ) → eqb (p * 2 + q) 0 ≡ (eqb p 0 && eqb q 0)
-double-none zero zero = refl
-double-none zero (suc q) = ne-eqb (0 * 2 + suc q) 0 (λ e. omega arith) ∙ sym (ne-eqb (suc q) 0 (λ e. omega arith))
-double-none (suc p) q = ne-eqb (suc p * 2 + q) 0 (λ e. omega arith) ∙ sym (ap (λ b. b && eqb q 0) (ne-eqb (suc p) 0 (λ e. omega arith)))
-
-none-step : (x w : ℕ) → none x w ≡ (none (x / 2) (w / 2) && eqb (min (x % 2) (w % 2)) 0)
-none-step x w = rw (and-step x w) (double-none (bitAnd (x / 2) (w / 2)) (min (x % 2) (w % 2)))
-
--- four tests, paired the other way
-cross : (p q r s : Bool) → ((p && q) && (r && s)) ≡ ((p && r) && (q && s))
-cross true true r s = refl
-cross true false true s = refl
-cross true false false s = refl
-cross false q r s = refl
-
-none-digit : (x a b d : ℕ) → d % 2 ≡ max (a % 2) (b % 2) → eqb (min (x % 2) (d % 2)) 0 ≡ (eqb (min (x % 2) (a % 2)) 0 && eqb (min (x % 2) (b % 2)) 0)
-none-digit x a b d e = elim (even x) [
-  | inl p ↦ (let l : (y : ℕ) → min 0 y ≡ 0 = λ y. omega arith in rw (p, l (d % 2), l (a % 2), l (b % 2)))
-  | inr p ↦ elim (even a) [
-    | inl q ↦ elim (even b) [ inl r ↦ rw (p, e, q, r) | inr r ↦ rw (p, e, q, r) ]
-    | inr q ↦ elim (even b) [ inl r ↦ rw (p, e, q, r) | inr r ↦ rw (p, e, q, r) ]
-  ]
-]
-
-or-half : (a b : ℕ) → bitOr a b / 2 ≡ bitOr (a / 2) (b / 2)
-or-half a b = or-shr a b 1
-
-or-odd : (a b : ℕ) → bitOr a b % 2 ≡ max (a % 2) (b % 2)
-or-odd a b = go (bitOr (a / 2) (b / 2)) (bitOr a b) (or-step a b)
-  where
-    go : (r w : ℕ) → w ≡ r * 2 + max (a % 2) (b % 2) → w % 2 ≡ max (a % 2) (b % 2)
-    go r w e = omega arith
-
--- none of the bits of two words
-pub none-or : (n x a b : ℕ) → x < 2 ^ n → none x (bitOr a b) ≡ (none x a && none x b)
-none-or zero x a b h = let z : x ≡ 0 = omega arith in rw z
-none-or (suc n) x a b h =
-    let high : none (x / 2) (bitOr a b / 2) ≡ (none (x / 2) (a / 2) && none (x / 2) (b / 2)) =
-    ap (none (x / 2)) (or-half a b) ∙ none-or n (x / 2) (a / 2) (b / 2) (omega (arith, pow-succ' 2 n)) in
-    none-step x (bitOr a b)
-    ∙ ap₂ (λ (p q : Bool). p && q) high (none-digit x a b (bitOr a b) (or-odd a b))
-    ∙ cross (none (x / 2) (a / 2)) (none (x / 2) (b / 2)) (eqb (min (x % 2) (a % 2)) 0) (eqb (min (x % 2) (b % 2)) 0)
-    ∙ sym (ap₂ (λ (p q : Bool). p && q) (none-step x a) (none-step x b))
-
--- not the one bit of weight 2 ^ k
-pub none-one : (k x : ℕ) → none x (2 ^ k) ≡ not (inputOn x (suc k))
-none-one zero x = none-step x 1 ∙ rw (and-zero-r (x / 2), low-bit x) (elim (even x) [ inl e ↦ rw e | inr e ↦ rw e ])
-none-one (suc k) x =
-    let p : 2 ^ suc k / 2 ≡ 2 ^ k = omega (arith, pow-succ' 2 k) in
-    let q : 2 ^ suc k % 2 ≡ 0 = omega (arith, pow-succ' 2 k) in
-    let m : min (x % 2) 0 ≡ 0 = omega arith in
-    none-step x (2 ^ suc k) ∙ rw (p, q, m, half-bit x k) (and-true (none (x / 2) (2 ^ k)) ∙ none-one k (x / 2))
 
 -- a one shifted below the width
 pub weight : (k : ℕ) → k < 64 → 1 * 2 ^ k % 18446744073709551616 ≡ 2 ^ k

@@ -17,6 +17,7 @@ fn wide(x: u16) -> usize
     x as usize
 }
 
+// Whether byte n is 1.
 pub fn flag(flags: &[u8], n: usize) -> bool
     ensures { λ r. ⌜ r ≡ on (now (flags .entry)) n ⌝ }
 {
@@ -26,6 +27,7 @@ pub fn flag(flags: &[u8], n: usize) -> bool
     flags[n] == 1
 }
 
+// The sub-state remembered of a.
 pub fn remembered(memory: &[u16], a: usize) -> usize
     ensures { λ r. ⌜ r ≡ remembered (now (memory .entry)) a ⌝ }
 {
@@ -52,6 +54,7 @@ pub fn active_leaf(memory: &[u16]) -> usize
     s
 }
 
+// The value of a timer.
 pub fn value(values: &[u32], i: usize) -> u32
     ensures { λ r. ⌜ r ≡ getD (now (values .entry)) i 0 ⌝ }
 {
@@ -72,7 +75,7 @@ pub fn bit_at(w: u64, i: usize) -> bool
 }
 
 // The word with number i + 1 in it.
-pub fn with_bit(w: u64, i: usize) -> u64
+fn with_bit(w: u64, i: usize) -> u64
     requires { ⌜ i < 64 ⌝ }
     ensures { λ r. ⌜ r ≡ bitOr w (2 ^ i) ⌝ }
 {
@@ -117,6 +120,7 @@ pub fn expired_of(presets: &[u32], running: u64, timers: &[u32]) -> u64
     word
 }
 
+// The word of a state.
 pub fn word(words: &[u64], s: usize) -> u64
     ensures { λ r. ⌜ r ≡ getD (now (words .entry)) s 0 ⌝ }
 {

@@ -1,3 +1,2 @@
 pub mod Pass
 pub mod Once
-pub mod Plain

@@ -1,13 +1,10 @@
 -- How long the lines are that stand beside the text, so that one buffer is room enough for whatever is printed.
 use mathlib.Core.Path.{_≡_, refl, ap, sym, _∙_}
-use mathlib.Core.Logic.{inl, inr}
-use Prim.Native.Nat.{ℕ, zero, suc, _+_, _*_, _/_, _%_, _≤_}
+use Prim.Native.Nat.{ℕ, suc, _+_, _*_, _≤_}
 use native.Mathlib.Omega.{arith}
 use mathlib.Core.List.{List, [], _∷_, _++_, map}
 use lib.ListN.{length, length-append, length-map}
-use lib.Dec.{ltb}
 use borrow.Author.Tests.{leb-true}
-use Rattle.meaning.specs.RowsLaws.{which}
 use Rattle.meaning.specs.Refusals.{numberOf, placeOf}
 use Rattle.meaning.specs.Tables.{Tables}
 use Rattle.meaning.specs.Check.{checks, verdictOf, verdict}
@@ -15,7 +12,8 @@ use Rattle.meaning.specs.Machine.{Seen, State, step, start, trace}
 use Rattle.meaning.specs.declared.Refusal.{Refusal}
 use Rattle.meaning.specs.declared.Verdict.{Verdict}
 use Rattle.meaning.specs.declared.Verdict.the-variants.{Accepted, Refused}
-use Rattle.format.specs.Text.{bytes, digits, decimal}
+use Rattle.format.specs.Text.{bytes, decimal}
+use Rattle.format.specs.Decimals.{decimal-few}
 use Rattle.format.specs.Printed.{chartText, roomCheck, scanLines, refusalLine, mostText}
 use Rattle.chart.specs.Verdicts.{isRefused, go, passed}
 use Rattle.results.specs.Results.{endOf, linesOf, refusal-parts, lines-are}
@@ -25,18 +23,6 @@ use Rattle.printing.specs.Ran.{page-tables}
 -- 65,536 bytes of text and 4,096 lines of 63, three decimals of at most 20 digits each
 abbrev pub mostPrinted : ℕ
 mostPrinted = 323584
-
-digits-few : (k n : ℕ) → length (digits k n) ≤ suc k
-unfolding digits
-digits-few zero n = omega arith
-digits-few (suc k) n = elim (which (ltb n 10)) [
-  | inl e ↦ rw (digits, e) (omega arith)
-  | inr e ↦ rw (digits, e) (omega (arith, length-append (digits k (n / 10)) ((48 + n % 10) ∷ []), digits-few k (n / 10)))
-]
-
-decimal-few : (n : ℕ) → length (decimal n) ≤ 20
-unfolding decimal
-decimal-few n = digits-few 19 n
 
 end-few : (w : List ℕ) (a b : ℕ) → length (w ++ endOf a b) ≤ length w + 43
 end-few w a b =

@@ -2,7 +2,7 @@
 use mathlib.Core.List.{List}
 use Prim.Native.Nat.{ℕ}
 use Rattle.meaning.specs.Once.{Once, two}
-use Rattle.printing.specs.declared.Answers.{Answers}
+use Rattle.files.specs.declared.Answers.{Answers}
 use Rattle.printing.specs.declared.Printed.{Printed}
 use Rattle.printing.specs.Print.{FilesPrinted, one-page}
 

@@ -14,28 +14,13 @@ use Rattle.meaning.specs.declared.Refusal.{Refusal}
 use Rattle.meaning.specs.declared.Verdict.{Verdict}
 use Rattle.meaning.specs.declared.Verdict.the-variants.{Accepted, Refused}
 use Rattle.format.specs.Printed.{chartText, roomCheck, scanLines, refusalLine}
-use Rattle.field.specs.Field.{signedOf}
+use Rattle.ended.specs.Decimals.{signedOf}
 use Rattle.columns.specs.Low.{low16, low32}
 use Rattle.lines.specs.Put.{Put}
 use Rattle.results.specs.Results.{linesOf}
-use Rattle.records.specs.declared.Answer.{Answer}
-use Rattle.records.specs.declared.Answer.the-variants as A
-use Rattle.printing.specs.declared.Answers.{Answers}
+use Rattle.files.specs.declared.Answers.{Answers}
+use Rattle.files.specs.Told.{rowsOf, fieldVerdict}
 use Rattle.printing.specs.declared.Printed.{Printed}
-use Rattle.printing.specs.declared.Counts.{Counts}
-use Rattle.tables.specs.declared.Chart.{Chart}
-
-abbrev pub rowsOf : Answer → ℕ
-rowsOf (A.Rows n) = n
-rowsOf (A.Refused r) = 0
-
--- the refusal of a file, or what comes after it
-abbrev pub later : Answer → Verdict → Verdict
-later (A.Rows n) v = v
-later (A.Refused r) v = Refused r
-
-abbrev pub fieldVerdict : Answers → Verdict
-fieldVerdict a = later (a .frame) (later (a .states) (later (a .moves) (later (a .presets) (later (a .«timer_pairs») (later (a .«output_pairs») (later (a .scans) Accepted))))))
 
 -- the refusals after FIELD
 unfoldable pub pageVerdict : Tables → Verdict
@@ -69,19 +54,6 @@ heldScans a scans = take (min (rowsOf (a .scans)) 4096) scans
 abbrev pub both : Verdict → Verdict → Verdict
 both Accepted v = v
 both (Refused r) v = Refused r
-
--- the frame of the chart
-abbrev pub chartFrom : List ℕ → Chart
-chartFrom frame = record { step = low32 (getD frame 0 0); inputs = low32 (getD frame 1 0); outputs = low32 (getD frame 2 0) }
-
--- how many numbers stand in the arrays
-pub record Counted (a : Answers) (n : Counts) : Type 0 where
-  pub states : n .states ≡ min (2 * rowsOf (a .states)) 514
-  pub moves : n .moves ≡ min (11 * rowsOf (a .moves)) 5643
-  pub presets : n .presets ≡ min (rowsOf (a .presets)) 33
-  pub timerPairs : n .«timer_pairs» ≡ min (2 * rowsOf (a .«timer_pairs»)) 4098
-  pub outputPairs : n .«output_pairs» ≡ min (2 * rowsOf (a .«output_pairs»)) 4098
-  pub scans : n .scans ≡ min (rowsOf (a .scans)) 4096
 
 -- ---- contracts
 

@@ -25,11 +25,13 @@ use Rattle.meaning.specs.declared.Verdict.{Verdict}
 use Rattle.meaning.specs.declared.Verdict.the-variants.{Accepted, Refused}
 use Rattle.format.specs.Records.{Column, records, fields, fieldValue, recordPasses, numbers}
 use Rattle.format.specs.Printed.{Files, unsigned, signed16, recordAt, fileCheck, frameCheck, scansFileCheck, fieldChecks, naturals, tables, printedVerdict, printedAs, printed}
-use Rattle.field.specs.Field.{top, signedOf}
+use Rattle.field.specs.Field.{top}
+use Rattle.ended.specs.Decimals.{signedOf}
 use Rattle.records.specs.declared.Answer.{Answer}
 use Rattle.records.specs.declared.Answer.the-variants as A
-use Rattle.records.specs.declared.Reader.{Reader}
-use Rattle.records.specs.Automaton.{fresh, feedAll, emitted, Fed, Finished}
+use Rattle.passing.specs.declared.Reader.{Reader}
+use Rattle.passing.specs.Passing.{fresh}
+use Rattle.records.specs.Automaton.{feedAll, emitted, Fed, Finished}
 use Rattle.records.specs.Pieces.{pieces-join}
 use Rattle.reading.specs.Fields.{stored}
 use Rattle.reading.specs.Reading.{answered}
@@ -37,10 +39,11 @@ use Rattle.reading.specs.Files.{Read, Calls, read-frame, read-states, read-move
 use Rattle.chart.specs.Verdicts.{isRefused, stop, go}
 use Rattle.columns.specs.Low.{low16, low32}
 use Rattle.lines.specs.Put.{Put}
-use Rattle.printing.specs.declared.Answers.{Answers}
+use Rattle.files.specs.declared.Answers.{Answers}
+use Rattle.files.specs.Told.{rowsOf, later, fieldVerdict}
 use Rattle.printing.specs.declared.Printed.{Printed}
 use Rattle.printing.specs.Lengths.{mostPrinted, printed-few, refusal-short}
-use Rattle.printing.specs.Print.{rowsOf, later, fieldVerdict, pageVerdict, printedOf, heldTables, heldScans, PrintedTo, FilesPrinted, map-take, narrowed, narrowed-front}
+use Rattle.printing.specs.Print.{pageVerdict, printedOf, heldTables, heldScans, PrintedTo, FilesPrinted, map-take, narrowed, narrowed-front}
 
 -- ---- what main does: each file is read piece after piece into a buffer, the frame's into a cleared one
 

@@ -1,7 +1,8 @@
 // What the program prints, from what the seven readers of records answered and stored.
+use files::Answers;
+use files::Counts;
 use meaning::Refusal;
 use meaning::Verdict;
-use records::Answer;
 use tables::Chart;
 use whole::Outcome;
 ghost use mathlib.Core.Path.{_≡_};
@@ -11,58 +12,14 @@ ghost use mathlib.Core.List.{List};
 ghost use Rattle.meaning.specs.Tables.{Tables};
 ghost use Rattle.meaning.specs.declared.Verdict.the-variants.{Refused};
 ghost use Rattle.tables.specs.Given.{tablesOf};
-ghost use Rattle.printing.specs.declared.Answers as X;
-ghost use Rattle.printing.specs.Print.{rowsOf, later, fieldVerdict, pageVerdict, Counted, chartFrom, PrintedTo, TextPrinted, RowsPrinted, FilesPrinted};
-
-// What the reader of each file answered.
-pub struct Answers {
-    pub frame: Answer,
-    pub states: Answer,
-    pub moves: Answer,
-    pub presets: Answer,
-    pub timer_pairs: Answer,
-    pub output_pairs: Answer,
-    pub scans: Answer,
-}
+ghost use Rattle.files.specs.declared.Answers as X;
+ghost use Rattle.files.specs.Told.{Counted, chartFrom};
+ghost use Rattle.printing.specs.Print.{pageVerdict, PrintedTo, TextPrinted, RowsPrinted, FilesPrinted};
 
 // How many bytes are printed, and why nothing else is.
 pub struct Printed {
     pub length: usize,
     pub verdict: Verdict,
-}
-
-fn rows(a: Answer) -> usize
-    ensures { λ r. ⌜ r ≡ rowsOf a ⌝ }
-{
-    match a {
-        Answer::Rows(n) => n,
-        Answer::Refused(_) => 0,
-    }
-}
-
-fn then(a: Answer, v: Verdict) -> Verdict
-    ensures { λ r. ⌜ r ≡ later a v ⌝ }
-{
-    match a {
-        Answer::Rows(_) => v,
-        Answer::Refused(r) => Verdict::Refused(r),
-    }
-}
-
-// "FIELD comes before all, file by file in the order of the program section."
-fn fields_pass(a: Answers) -> Verdict
-    ensures { λ v. ⌜ v ≡ fieldVerdict a ⌝ }
-{
-    let frame = a.frame;
-    let states = a.states;
-    let moves = a.moves;
-    let presets = a.presets;
-    let timer_pairs = a.timer_pairs;
-    let output_pairs = a.output_pairs;
-    let scans = a.scans;
-    let v = then(scans, Verdict::Accepted);
-    let w = then(timer_pairs, then(output_pairs, v));
-    then(frame, then(states, then(moves, then(presets, w))))
 }
 
 // "On refusal only "REFUSED,number,place"."
@@ -176,49 +133,6 @@ fn print_tables(
     )
 }
 
-// How many numbers of each table there are, or were kept.
-struct Counts {
-    states: usize,
-    moves: usize,
-    presets: usize,
-    timer_pairs: usize,
-    output_pairs: usize,
-    scans: usize,
-}
-
-fn count_rows(a: Answers) -> Counts
-    ensures { λ n. ⌜ Counted a n ⌝ }
-{
-    let states = a.states;
-    let moves = a.moves;
-    let presets = a.presets;
-    let timer_pairs = a.timer_pairs;
-    let output_pairs = a.output_pairs;
-    let scans = a.scans;
-    Counts {
-        states: columns::twos(rows(states), 514),
-        moves: columns::elevens(rows(moves), 5643),
-        presets: columns::ones(rows(presets), 33),
-        timer_pairs: columns::twos(rows(timer_pairs), 4098),
-        output_pairs: columns::twos(rows(output_pairs), 4098),
-        scans: columns::ones(rows(scans), 4096),
-    }
-}
-
-// "frame.csv (step, inputs, outputs, 32 bits each)"
-fn chart_of(frame: &[u64; 3]) -> Chart
-    ensures { λ r. ⌜ r ≡ chartFrom (now (frame .entry)) ⌝ }
-{
-    let step = columns::low_32(frame[0]);
-    let inputs = columns::low_32(frame[1]);
-    let outputs = columns::low_32(frame[2]);
-    Chart {
-        step,
-        inputs,
-        outputs,
-    }
-}
-
 // The tables in their types.
 fn print_rows(
     chart: Chart,
@@ -277,12 +191,12 @@ pub fn print(
     ensures { λ p. ⌜ FilesPrinted answers (now (frame .entry)) (now (states .entry)) (now (moves .entry)) (now (presets .entry)) (now («timer_pairs» .entry)) (now («output_pairs» .entry))
         (now (scans .entry)) (now (out .entry)) p (now (out .exit)) ⌝ }
 {
-    let v = fields_pass(answers);
+    let v = files::fields_pass(answers);
     match v {
         Verdict::Refused(r) => print_refusal(r, out),
         Verdict::Accepted => print_rows(
-            chart_of(frame),
-            count_rows(answers),
+            files::chart_of(frame),
+            files::count_rows(answers),
             states,
             moves,
             presets,

@@ -2,32 +2,29 @@
 use mathlib.Core.Path.{_≡_, refl, sym, ap, _∙_}
 use mathlib.Core.Logic.{_↔_}
 use Prim.Native.Nat.{ℕ, zero, suc, _+_, _≤_, _<_}
-use native.Mathlib.Numerals.{add-one}
 use native.Mathlib.Omega.{arith}
-use mathlib.Core.Bool.{Bool, true, false, _&&_, cond, false≢true}
-use mathlib.Core.List.{List, [], _∷_, _++_, map, append-nil}
-use lib.ListN.{length, getD, take, drop, replicate, drop-of-length-le}
+use mathlib.Core.Bool.{Bool, true, false, _&&_, false≢true}
+use mathlib.Core.List.{List, [], _∷_, _++_, append-nil}
+use lib.ListN.{length, getD, drop-of-length-le}
 use lib.Seq.{sets, sets-eq}
-use lib.Dec.{leb, ltb, eqb}
-use borrow.Author.Tests.{lt-ltb, le-leb, lt-leb, leb-true, eqb-true, eqb-false}
+use lib.Dec.{ltb, eqb}
+use borrow.Author.Tests.{lt-ltb, le-leb, leb-true, eqb-true, eqb-false}
 use Rattle.meaning.specs.RowsLaws.{and-l, and-r, and-both}
 use Rattle.meaning.specs.Tables.{mostStep}
 use Rattle.meaning.specs.Literals.{between}
-use Rattle.meaning.specs.Programs.{TimerRung, Program, instructions, fits}
-use Rattle.meaning.specs.Scan.{Controller, ValidController, blank, scanned, outputWord, scannedAll, outputTrace}
+use Rattle.meaning.specs.Programs.{TimerRung, Program, instructions}
+use Rattle.meaning.specs.Scan.{ValidController, blank, scanned}
 use Rattle.meaning.specs.declared.Block.{Block}
 use Rattle.meaning.specs.declared.Verdict.{Verdict}
 use Rattle.meaning.specs.declared.Verdict.the-variants as G
 use Rattle.meaning.specs.declared.Refusal.{Refusal}
-use Rattle.meaning.specs.declared.Refusal.the-variants.{Size, Text, State, Scans}
-use Rattle.format.specs.Words.{words}
-use Rattle.format.specs.Places.{WordPlace}
-use Rattle.meaning.specs.RowsLaws.{which}
-use mathlib.Core.Logic.{inl, inr}
+use Rattle.meaning.specs.declared.Refusal.the-variants.{Size}
 use Rattle.il.specs.Scans.{holding, Fitting}
-use Rattle.controller.specs.Sizes.{bytesNamed, rungsIn, noRungs, Asks, program-asks}
-use Rattle.controller.specs.Validity.{AreBits, time-at, some-rung, few-timers}
-use Rattle.row.specs.Row.{inItsTime, inTime, RowScan, RowRun, runOf}
+use Rattle.controller.specs.Sizes.{rungsIn, noRungs, Asks, program-asks}
+use Rattle.controller.specs.Validity.{time-at, some-rung, few-timers}
+use Rattle.judging.specs.Judged.{StatePasses, JudgedBy, restOf, isAccepted}
+use Rattle.block.specs.Called.{inItsTime}
+use Rattle.row.specs.Row.{inTime, RowScan, RowRun, runOf}
 use Rattle.row.specs.RowLaws.{row-scan-right, row-run-right}
 use Rattle.programs.specs.declared.Ran.{Ran}
 use Rattle.programs.specs.declared.Ran.the-variants.{Done, Refused}
@@ -54,13 +51,6 @@ all-in-time [] ts i ok e h = e
 all-in-time (b ∷ bs) ts i ok e h = all-in-time bs ts (suc i) (ok && inItsTime i b ts) (and-both ok (inItsTime i b ts) e (h 0 i (omega arith) (omega arith))) (λ t j f g. h (suc t) j (omega arith) (omega arith))
 
 -- ---- what the tests come to
-
--- the lent bytes, n blocks where q are declared, and whether they are in time
-pub record StatePasses (ws fs : List ℕ) (n q : ℕ) (timely : Bool) : Type 0 where
-  pub size : length fs ≡ bytesNamed ws
-  pub blocks : n ≡ q
-  pub bits : AreBits fs
-  pub times : timely ≡ true
 
 abbrev pub timelyOf : List ℕ → List Block → Bool
 timelyOf ws bs = inTime 0 bs (rungsIn ws noRungs .times) true
@@ -96,28 +86,6 @@ module _ (p : Program) (ws fs : List ℕ) (bs : List Block) (f : Fitting p ws) w
       }
 
 -- ---- the checks, in their order
-
-pub step-low : (d : ℕ) → d < 1 → between 1 mostStep d ≡ false
-step-low d h = rw (lt-leb 1 d h)
-
-pub step-high : (d : ℕ) → 1000 < d → between 1 mostStep d ≡ false
-step-high d h = rw (le-leb 1 d (omega arith), lt-leb d 1000 h)
-
-pub step-in : (d : ℕ) → 1 ≤ d → d ≤ 1000 → between 1 mostStep d ≡ true
-step-in d h g = rw (le-leb 1 d h, le-leb d 1000 g)
-
-abbrev pub restOf : Bool → Bool → Verdict
-restOf ok fit = cond ok (cond fit G.Accepted (G.Refused Scans)) (G.Refused State)
-
--- with n blocks, of which `timely` says whether they are in time, i input words and m results
-pub data JudgedBy (d : ℕ) (ws fs : List ℕ) (n : ℕ) (timely : Bool) (i m : ℕ) (v : Verdict) : Type 0 where
-  step : between 1 mostStep d ≡ false → v ≡ G.Refused Size → JudgedBy d ws fs n timely i m v
-  text : between 1 mostStep d ≡ true → (k : ℕ) → WordPlace ws k → v ≡ G.Refused (Text k) → JudgedBy d ws fs n timely i m v
-  rest : between 1 mostStep d ≡ true → (p : Program) → Fitting p ws → (ok : Bool) → (ok ≡ true) ↔ StatePasses ws fs n (length (p .timers)) timely → v ≡ restOf ok (eqb m i) → JudgedBy d ws fs n timely i m v
-
-abbrev pub isAccepted : Verdict → Bool
-isAccepted G.Accepted = true
-isAccepted (G.Refused q) = false
 
 abbrev pub ranFor : Verdict → Ran
 ranFor G.Accepted = Done 0

@@ -1,86 +1,12 @@
 // From a text to the words of its instructions.
-use format::Line;
-use meaning::Operator;
 use meaning::Refusal;
-ghost use mathlib.Core.Path.{_≡_};
-ghost use Prim.Native.Nat.{_+_, _%_, _≤_};
-ghost use lib.ListN.{length, set};
-ghost use Rattle.format.specs.Words.{word};
-ghost use Rattle.reader.specs.Reads.{LineEnd, counted, placed, Pass, TextRead};
+use text_pass::Outcome;
+ghost use Rattle.reader.specs.Reads.{TextRead};
 
 // What the reader answers: how many words it wrote, or why it wrote none.
 pub enum Answer {
     Read(usize),
     Refused(Refusal),
-}
-
-// Where the line that begins at from ends: at its LF, or with the text.
-fn line_end(text: &[u8], from: usize) -> usize
-    requires { ⌜ from ≤ length (now text) ⌝ }
-    ensures { λ r. ⌜ LineEnd (now (text .entry)) from r ⌝ }
-{
-    let mut e = from;
-    while e < text.len() {
-        if text[e] == 10 {
-            return e;
-        }
-        e += 1;
-    }
-    e
-}
-
-// The word of an instruction, where there is room for it; it counts in any case.
-fn put_word(out: &mut [u32], n: usize, i: Operator) -> usize
-    requires { ⌜ n ≤ 9223372036854775807 ⌝ }
-    ensures { λ r. ⌜ (r ≡ n + 1) × (now (out .exit) ≡ set (now (out .entry)) n (word i % 4294967296)) ⌝ }
-{
-    if n < out.len() {
-        out[n] = decode::encode(i);
-        return n + 1;
-    }
-    n + 1
-}
-
-fn put_line(out: &mut [u32], n: usize, l: Line) -> usize
-    requires { ⌜ n ≤ 9223372036854775807 ⌝ }
-    ensures { λ r. ⌜ (r ≡ counted n l) × (now (out .exit) ≡ placed (now (out .entry)) n l) ⌝ }
-{
-    match l {
-        Line::Header => n,
-        Line::Var => n,
-        Line::Block(_) => n,
-        Line::EndVar => n,
-        Line::Says(i) => put_word(out, n, i),
-        Line::EndProgram => n,
-        Line::Unknown => n,
-    }
-}
-
-// One pass over the lines: it measures over an empty part, and writes over one with room.
-fn pass(text: &[u8], out: &mut [u32]) -> Answer
-    ensures { λ r. ⌜ Pass (now (text .entry)) (now (out .entry)) r (now (out .exit)) ⌝ }
-{
-    let mut p = page::first();
-    let mut from = 0;
-    let mut n = 0;
-    while from < text.len() {
-        let to = line_end(text, from);
-        if to == text.len() {
-            return Answer::Refused(Refusal::Text(from));
-        }
-        let l = line::line_of(&text[from..to]);
-        p = page::turn(p, l);
-        if page::stands(p) {
-            n = put_line(out, n, l);
-            from = to + 1;
-        } else {
-            return Answer::Refused(Refusal::Text(from));
-        }
-    }
-    if page::is_over(p) {
-        return Answer::Read(n);
-    }
-    Answer::Refused(Refusal::Text(from))
 }
 
 // The words of the instructions of an accepted text, from the front of out.
@@ -89,14 +15,15 @@ pub fn read(text: &[u8], out: &mut [u32]) -> Answer
 {
     let room = out.len();
     let none = 0;
-    let measured = pass(text, &mut out[..none]);
+    let measured = text_pass::pass(text, &mut out[..none]);
     match measured {
-        Answer::Read(n) => {
+        Outcome::Over(n) => {
             if room < n {
                 return Answer::Refused(Refusal::Room(n));
             }
-            pass(text, out)
+            text_pass::pass(text, out);
+            Answer::Read(n)
         }
-        Answer::Refused(r) => Answer::Refused(r),
+        Outcome::Stopped(k) => Answer::Refused(Refusal::Text(k)),
     }
 }

@@ -17,9 +17,10 @@ use Rattle.format.specs.Records.{same, spelt, decimalWithin, negative, fieldVal
 use Rattle.format.specs.Decimals.{huge, digit}
 use Rattle.field.specs.declared.Phase.{Phase}
 use Rattle.field.specs.declared.Phase.the-variants.{Fresh, Empty, Quote, Minus, Number, Closed, Return, Bad}
-use Rattle.field.specs.declared.Decimal.{Decimal}
-use Rattle.field.specs.declared.Decimal.the-variants.{Is, IsNot}
-use Rattle.field.specs.Field.{top, grown, begun, numberAfter, phaseAfter, encoded, decimalOf}
+use Rattle.ended.specs.declared.Decimal.{Decimal}
+use Rattle.ended.specs.declared.Decimal.the-variants.{Is, IsNot}
+use Rattle.field.specs.Field.{top, grown, begun, numberAfter, phaseAfter}
+use Rattle.ended.specs.Decimals.{encoded, decimalOf}
 use Rattle.field.specs.FieldLaws.{grown-low, grown-high, grown-past, grown-digit}
 use Rattle.reading.specs.Decimals.{goesOn, goes-end, goes-digit, goes-other, goes-past, goes-zero, goes-low, within-none, within-other, within-digit, within-past}
 

@@ -18,9 +18,11 @@ use Rattle.format.specs.Records.{Column, records, recordPasses, numbers}
 use Rattle.format.specs.Printed.{naturals, unsigned, signed16, recordAt, fileCheck, frameCheck, scansFileCheck}
 use Rattle.records.specs.declared.Answer.{Answer}
 use Rattle.records.specs.declared.Answer.the-variants.{Rows, Refused}
-use Rattle.records.specs.declared.Reader.{Reader}
-use Rattle.field.specs.Field.{top, signedOf}
-use Rattle.records.specs.Automaton.{fresh, emits, feedAll, emitted, atEnd, answerOf, Fed, Finished}
+use Rattle.passing.specs.declared.Reader.{Reader}
+use Rattle.field.specs.Field.{top}
+use Rattle.ended.specs.Decimals.{signedOf}
+use Rattle.passing.specs.Passing.{fresh}
+use Rattle.records.specs.Automaton.{emits, feedAll, emitted, atEnd, answerOf, Fed, Finished}
 use Rattle.records.specs.Pieces.{sets-fed}
 use Rattle.reading.specs.Fields.{stored}
 use Rattle.reading.specs.Reading.{mostOf, belowOf, limited, answered, read-answer, read-passing, read-numbers}

@@ -15,11 +15,13 @@ use Rattle.meaning.specs.RowsLaws.{which, and-l, and-r, and-both}
 use Rattle.format.specs.Records.{front, pieces, withoutCr}
 use Rattle.field.specs.declared.Phase.{Phase}
 use Rattle.field.specs.declared.Phase.the-variants.{Fresh, Empty, Quote, Minus, Number, Closed, Return, Bad}
-use Rattle.field.specs.declared.Decimal.{Decimal}
-use Rattle.field.specs.declared.Decimal.the-variants.{Is, IsNot}
-use Rattle.records.specs.declared.Reader.{Reader}
-use Rattle.field.specs.Field.{top, grown, begun, numberAfter, phaseAfter, decimalOf, returned, untouched}
-use Rattle.records.specs.Automaton.{up, moved, bad, ends, fits, passed, taken, fieldEnd, feedByte, shown, fieldEmits, emits, feedAll, emitted}
+use Rattle.ended.specs.declared.Decimal.{Decimal}
+use Rattle.ended.specs.declared.Decimal.the-variants.{Is, IsNot}
+use Rattle.passing.specs.declared.Reader.{Reader}
+use Rattle.field.specs.Field.{top, grown, begun, numberAfter, phaseAfter}
+use Rattle.ended.specs.Decimals.{decimalOf, returned, untouched}
+use Rattle.passing.specs.Passing.{up, moved, bad, ends, fits, passed}
+use Rattle.records.specs.Automaton.{taken, fieldEnd, feedByte, shown, fieldEmits, emits, feedAll, emitted}
 use Rattle.reading.specs.Fields.{phaseAll}
 
 -- ---- pieces

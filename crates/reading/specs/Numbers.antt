@@ -17,7 +17,8 @@ use Rattle.format.specs.Records.{Column, pieces, records, content, fields, same
 use Rattle.format.specs.Printed.{naturals}
 use Rattle.format.specs.DecodeLaws as decode
 use Rattle.format.specs.LineLaws.{all-append}
-use Rattle.field.specs.Field.{top, signedOf}
+use Rattle.field.specs.Field.{top}
+use Rattle.ended.specs.Decimals.{signedOf}
 use Rattle.reading.specs.Fields.{stored, fitsIn}
 use Rattle.reading.specs.Reading.{mostOf, belowOf, column-fits}
 

@@ -21,13 +21,15 @@ use Rattle.format.specs.Printed.{unsigned, signed16, mostScans, recordAt, fileC
 use Rattle.format.specs.Decimals.{huge}
 use Rattle.field.specs.declared.Phase.{Phase}
 use Rattle.field.specs.declared.Phase.the-variants.{Fresh, Empty}
-use Rattle.field.specs.declared.Decimal.{Decimal}
-use Rattle.field.specs.declared.Decimal.the-variants.{Is, IsNot}
+use Rattle.ended.specs.declared.Decimal.{Decimal}
+use Rattle.ended.specs.declared.Decimal.the-variants.{Is, IsNot}
 use Rattle.records.specs.declared.Answer.{Answer}
 use Rattle.records.specs.declared.Answer.the-variants.{Rows, Refused}
-use Rattle.records.specs.declared.Reader.{Reader}
-use Rattle.field.specs.Field.{top, decimalOf}
-use Rattle.records.specs.Automaton.{fresh, shown, emits, feedAll, emitted, atEnd, answerOf}
+use Rattle.passing.specs.declared.Reader.{Reader}
+use Rattle.field.specs.Field.{top}
+use Rattle.ended.specs.Decimals.{decimalOf}
+use Rattle.passing.specs.Passing.{fresh}
+use Rattle.records.specs.Automaton.{shown, emits, feedAll, emitted, atEnd, answerOf}
 use Rattle.reading.specs.Decimals.{within-other, within-none}
 use Rattle.reading.specs.Fields.{stored, fitsIn, told, phaseAll, field-after, fresh-after}
 use Rattle.reading.specs.Lines.{pieces-cons, isNumber, restPasses, restNumbers}

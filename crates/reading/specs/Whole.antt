@@ -15,13 +15,15 @@ use Rattle.meaning.specs.declared.Refusal.the-variants as R
 use Rattle.format.specs.Records.{front, pieces, withoutCr, ended}
 use Rattle.field.specs.declared.Phase.{Phase}
 use Rattle.field.specs.declared.Phase.the-variants.{Fresh, Empty, Quote, Minus, Number, Closed, Return, Bad}
-use Rattle.field.specs.declared.Decimal.{Decimal}
-use Rattle.field.specs.declared.Decimal.the-variants.{Is, IsNot}
+use Rattle.ended.specs.declared.Decimal.{Decimal}
+use Rattle.ended.specs.declared.Decimal.the-variants.{Is, IsNot}
 use Rattle.records.specs.declared.Answer.{Answer}
 use Rattle.records.specs.declared.Answer.the-variants.{Rows, Refused}
-use Rattle.records.specs.declared.Reader.{Reader}
-use Rattle.field.specs.Field.{top, phaseAfter, decimalOf, returned, untouched, failed}
-use Rattle.records.specs.Automaton.{up, moved, bad, ends, fits, passed, taken, fieldEnd, feedByte, emits, feedAll, emitted, atEnd, answerOf}
+use Rattle.passing.specs.declared.Reader.{Reader}
+use Rattle.field.specs.Field.{top, phaseAfter}
+use Rattle.ended.specs.Decimals.{decimalOf, returned, untouched, failed}
+use Rattle.passing.specs.Passing.{up, moved, bad, ends, fits, passed}
+use Rattle.records.specs.Automaton.{taken, fieldEnd, feedByte, emits, feedAll, emitted, atEnd, answerOf}
 use Rattle.records.specs.StepLaws.{fresh-emits-lf}
 use Rattle.records.specs.Pieces.{feed-append, emitted-append}
 use Rattle.reading.specs.Lines.{pieces-cons, trimmed, restPasses, restNumbers, Passed, Failed, Outcome, closed, after-live, bad-byte, Plain, line}

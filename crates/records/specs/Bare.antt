@@ -2,18 +2,19 @@
 use mathlib.Core.Path.{_≡_}
 use mathlib.Core.Logic.{_⊎_}
 use Prim.Native.Nat.{ℕ, suc, _+_, _≤_, _<_, min}
-use mathlib.Core.Bool.{Bool, true, false, _&&_, cond}
+use mathlib.Core.Bool.{Bool, false, _&&_}
 use mathlib.Core.List.{List}
 use lib.ListN.{length, drop, getD}
 use lib.Dec.{ltb}
 use lib.Seq.{sets}
 use Rattle.field.specs.declared.Phase.{Phase}
 use Rattle.field.specs.declared.Phase.the-variants.{Number}
-use Rattle.field.specs.Field.{begins, encoded}
-use Rattle.records.specs.declared.Reader.{Reader}
-use Rattle.records.specs.declared.Run.{Run}
+use Rattle.ended.specs.Decimals.{begins, encoded}
+use Rattle.passing.specs.declared.Reader.{Reader}
+use Rattle.bare.specs.declared.Run.{Run}
 use Rattle.records.specs.declared.Stand.{Stand}
-use Rattle.records.specs.Automaton.{moved, feedAll, emitted}
+use Rattle.passing.specs.Passing.{moved}
+use Rattle.records.specs.Automaton.{feedAll, emitted}
 
 -- the reader in another phase
 abbrev pub standing : Reader → Phase → Reader
@@ -34,25 +35,12 @@ pub record Turn (s t : Reader) (bytes out left : List ℕ) (i j : ℕ) : Type 0 
   pub stored : sets left (t .at) (emitted t (drop j bytes)) ≡ sets out (s .at) (emitted s (drop i bytes))
   pub lengths : length left ≡ length out
 
--- ---- contracts
-
--- digits that take a number on, in any reader whose type has the limit
-abbrev pub Digits : ℕ → List ℕ → ℕ → ℕ → Run → Type 0
-Digits limit bytes from first u = (from ≤ u .end) × ((s : Reader) (negative : Bool) → s .record_no < s .limit → cond negative (s .below) (s .most) ≡ limit
-    → Silent (standing s (Number false negative first)) (standing s (Number false negative (u .value))) bytes from (u .end))
-
 -- a reader at the begin of a field comes to a number, whose stored form is the run's
 pub record Numbered (s : Reader) (bytes : List ℕ) (from : ℕ) (u : Run) : Type 0 where
   pub negative : Bool
   pub size : ℕ
   pub value : u .value ≡ encoded negative size
   pub way : Silent s (standing s (Number false negative size)) bytes from (u .end)
-
-abbrev pub AfterMinus : ℕ → List ℕ → ℕ → Run → Type 0
-AfterMinus below bytes from u = from < u .end → getD bytes from 0 ≡ 45 → (s : Reader) → ready s ≡ true → s .below ≡ below → Numbered s bytes from u
-
-abbrev pub Bare : Reader → List ℕ → ℕ → Run → Type 0
-Bare s bytes from u = from < u .end → ready s ≡ true → Numbered s bytes from u
 
 -- a comma with fields to come, LF with none
 abbrev pub InPlace : ℕ → ℕ → Type 0
@@ -62,8 +50,7 @@ InPlace left b = ((b ≡ 44) × (0 < left)) ⊎ ((b ≡ 10) × (left ≡ 0))
 abbrev pub Closes : ℕ → List ℕ → ℕ → ℕ → Type 0
 Closes left bytes end last = ((last ≡ end) × InPlace left (getD bytes end 0)) ⊎ ((last ≡ end + 1) × (getD bytes end 0 ≡ 13) × (getD bytes last 0 ≡ 10) × (left ≡ 0))
 
-abbrev pub Ended : ℕ → List ℕ → ℕ → ℕ → ℕ → Type 0
-Ended left bytes i end last = i < last → (i < end) × (last < length bytes) × Closes left bytes end last
+-- ---- contracts
 
 pub record Went (s : Reader) (bytes out : List ℕ) (from : ℕ) (t : Stand) (left : List ℕ) : Type 0 where
   pub on : from ≤ t .next

@@ -1,23 +1,29 @@
 -- Laws of Bare.antt: one byte, then runs of bytes, then a field with what ends it.
 use mathlib.Core.Path.{_≡_, refl, sym, ap, _∙_}
 use mathlib.Core.Logic.{inl, inr}
-use Prim.Native.Nat.{ℕ, suc, _+_, _*_, _-_, _≤_, _<_}
+use Prim.Native.Nat.{ℕ, zero, suc, _+_, _*_, _-_, _/_, _≤_, _<_}
 use native.Mathlib.Numerals.{add-one}
 use native.Mathlib.Omega.{arith}
-use mathlib.Core.Bool.{Bool, true, false, cond}
+use mathlib.Core.Bool.{Bool, true, false, _&&_, cond}
 use mathlib.Core.List.{List, []}
 use lib.ListN.{length, set, getD, drop, length-set}
 use lib.Seq.{sets, drop-cons, length-sets}
-use lib.Dec.{ltb}
-use borrow.Author.Tests.{lt-ltb, lt-leb, ne-eqb, ltb-true}
-use Rattle.meaning.specs.RowsLaws.{and-l, and-r}
+use lib.Dec.{ltb, leb, eqb}
+use native.Mathlib.Decide.{decLe}
+use borrow.Author.Tests.{lt-ltb, lt-leb, ne-eqb, ltb-true, ltb-false, leb-true, eqb-true}
+use Rattle.meaning.specs.RowsLaws.{which, and-l, and-r}
 use Rattle.field.specs.declared.Phase.{Phase}
 use Rattle.field.specs.declared.Phase.the-variants.{Minus, Number}
-use Rattle.field.specs.Field.{top, phaseAfter, begun, begins, decimalOf, encoded}
-use Rattle.field.specs.FieldLaws.{begin-after, digit-first, digit-minus, digit-next}
-use Rattle.records.specs.declared.Reader.{Reader}
-use Rattle.records.specs.declared.Run.{Run}
-use Rattle.records.specs.Automaton.{up, ends, passed, taken, fieldEnd, feedByte, shown, fieldEmits, emits, feedAll, emitted, FedByte}
+use Rattle.field.specs.Field.{top, phaseAfter, begun}
+use Rattle.ended.specs.Decimals.{begins, decimalOf, encoded}
+use Rattle.field.specs.FieldLaws.{digit-first, digit-minus, digit-next}
+use Rattle.ended.specs.DecimalLaws.{begin-after}
+use Rattle.passing.specs.declared.Reader.{Reader}
+use Rattle.bare.specs.declared.Run.{Run}
+use Rattle.bare.specs.Bare.{goes, digitsFrom, first, minusFrom, bareFrom, returns, endFrom}
+use Rattle.bare.specs.BareLaws.{digits-on, digits-stop, digits-end}
+use Rattle.passing.specs.Passing.{up, ends, passed}
+use Rattle.records.specs.Automaton.{taken, fieldEnd, feedByte, shown, fieldEmits, emits, feedAll, emitted, FedByte}
 use Rattle.records.specs.StepLaws.{sets-next}
 use Rattle.records.specs.Bare.{standing, ready, Silent, Turn, Numbered, InPlace, Closes}
 
@@ -79,6 +85,105 @@ module _ (s : Reader) (bytes : List ℕ) (i : ℕ) (r : ready s ≡ true) where
       let f : phaseAfter (s .most) (s .below) (s .phase) (getD bytes i 0) ≡ Minus false = rw e (ready-after 45) in
       silent-then (silent-byte s (Minus false) bytes i (omega arith) (ready-room s r) (omega arith) f)
       (silent-byte (standing s (Minus false)) _ bytes (i + 1) h (ready-room s r) (omega arith) (digit-minus (s .most) (s .below) (getD bytes (i + 1) 0) l m p))
+
+-- ---- a bare number
+
+-- digits that take a number on, in any reader whose type has the limit
+digits-way : (s : Reader) (negative : Bool) (limit : ℕ) → s .record_no < s .limit → cond negative (s .below) (s .most) ≡ limit → (bytes : List ℕ) (k i n : ℕ) → length bytes ≤ i + k
+    → Silent (standing s (Number false negative n)) (standing s (Number false negative (digitsFrom limit (drop i bytes) i n .value))) bytes i (digitsFrom limit (drop i bytes) i n .end)
+digits-way s negative limit g f bytes zero i n h = rw (digits-end limit bytes i n (omega arith)) (silent-none _ _ _)
+digits-way s negative limit g f bytes (suc k) i n h = elim (decLe (suc i) (length bytes)) [
+  | yes l ↦ elim (which (goes limit n (getD bytes i 0))) [
+    | inl e ↦ (let b = getD bytes i 0 in
+        let p : 48 ≤ b = leb-true 48 b (search and-l depth 14) in
+        let q : b ≤ 57 = leb-true b 57 (search (and-l, and-r) depth 14) in
+        let z : 0 < n = ltb-true 0 n (search (and-l, and-r) depth 14) in
+        let t : n < limit / 10 = ltb-true n (limit / 10) (search (and-l, and-r) depth 14) in
+        rw (digits-on limit bytes i n l e)
+        (silent-then (silent-digit s negative n bytes i l g p q z (omega (arith, f))) (digits-way s negative limit g f bytes k (i + 1) (10 * n + (b - 48)) (omega arith))))
+    | inr e ↦ rw (digits-stop limit bytes i n l e) (silent-none _ _ _)
+  ]
+  | no l ↦ rw (digits-end limit bytes i n (omega arith)) (silent-none _ _ _)
+]
+
+module _ (s : Reader) (bytes : List ℕ) (i : ℕ) (r : ready s ≡ true) where
+  minus-numbered : getD bytes i 0 ≡ 45 → i < minusFrom (s .below) bytes i .end → Numbered s bytes i (minusFrom (s .below) bytes i)
+  unfolding minusFrom
+  minus-numbered f h = elim (which (ltb (i + 1) (length bytes) && first 49 (s .below) (getD bytes (i + 1) 0))) [
+    | inl e ↦ (let b = getD bytes (i + 1) 0 in
+        let l : i + 1 < length bytes = ltb-true (i + 1) (length bytes) (search and-l depth 14) in
+        let p : 49 ≤ b = leb-true 49 b (search (and-l, and-r) depth 14) in
+        let q : b ≤ 57 = leb-true b 57 (search (and-l, and-r) depth 14) in
+        let m : b - 48 ≤ s .below = leb-true (b - 48) (s .below) (search (and-l, and-r) depth 14) in
+        rw e
+        (record {
+          negative = true;
+          size = digitsFrom (s .below) (drop (i + 1 + 1) bytes) (i + 1 + 1) (b - 48) .value;
+          value = refl;
+          way = silent-then (silent-minus s bytes i r l f p q m) (digits-way s true (s .below) (ready-room s r) refl bytes (length bytes) (i + 1 + 1) (b - 48) (omega arith));
+        }))
+    | inr e ↦ absurd (let z : i < i = rw e at h in omega arith)
+  ]
+
+  bare-numbered : i < bareFrom (s .most) (s .below) bytes i .end → Numbered s bytes i (bareFrom (s .most) (s .below) bytes i)
+  unfolding bareFrom
+  bare-numbered h = elim (which (ltb i (length bytes))) [
+    | inl l ↦ elim (which (eqb (getD bytes i 0) 45)) [
+      | inl e ↦ rw (l, e) (minus-numbered (eqb-true (getD bytes i 0) 45 e) (rw (l, e) at h))
+      | inr e ↦ elim (which (first 48 (s .most) (getD bytes i 0))) [
+        | inl f ↦ (let b = getD bytes i 0 in
+            let p : 48 ≤ b = leb-true 48 b (search and-l depth 14) in
+            let q : b ≤ 57 = leb-true b 57 (search (and-l, and-r) depth 14) in
+            let m : b - 48 ≤ s .most = leb-true (b - 48) (s .most) (search (and-l, and-r) depth 14) in
+            rw (l, e, f)
+            (record {
+              negative = false;
+              size = digitsFrom (s .most) (drop (i + 1) bytes) (i + 1) (b - 48) .value;
+              value = refl;
+              way = silent-then (silent-first s bytes i r (ltb-true i (length bytes) l) p q m) (digits-way s false (s .most) (ready-room s r) refl bytes (length bytes) (i + 1) (b - 48) (omega arith));
+            }))
+        | inr f ↦ absurd (let z : i < i = rw (l, e, f) at h in omega arith)
+      ]
+    ]
+    | inr l ↦ absurd (let z : i < i = rw l at h in omega arith)
+  ]
+
+  -- a field that is taken whole comes to its number
+  pub bare-way : (u : Run) → u ≡ bareFrom (s .most) (s .below) bytes i → i < u .end → Numbered s bytes i u
+  bare-way u e h = rw e (bare-numbered (rw e at h))
+
+-- what ends it in its place
+module _ (left : ℕ) (bytes : List ℕ) (i end last : ℕ) (h : i < last) where
+  record-closes : i < end → end < length bytes → left ≡ 0 → last ≡ cond (eqb (getD bytes end 0) 10) end (cond (returns bytes end) (end + 1) i) → (i < end) × (last < length bytes) × Closes left bytes end last
+  record-closes k l z p = elim (which (eqb (getD bytes end 0) 10)) [
+    | inl e ↦ (let f : last ≡ end = rw e at p in (k, omega arith, inl (f, inr (eqb-true (getD bytes end 0) 10 e, z))))
+    | inr e ↦ elim (which (returns bytes end)) [
+      | inl g ↦ (let f : last ≡ end + 1 = rw (e, g) at p in
+          let n : end + 1 < length bytes = ltb-true (end + 1) (length bytes) (search and-l depth 14) in
+          let c : getD bytes end 0 ≡ 13 = eqb-true (getD bytes end 0) 13 (search (and-l, and-r) depth 14) in
+          let d : getD bytes (end + 1) 0 ≡ 10 = eqb-true (getD bytes (end + 1) 0) 10 (search (and-l, and-r) depth 14) in
+          (k, omega arith, inr (f, c, rw f d, z)))
+      | inr g ↦ absurd (let f : last ≡ i = rw (e, g) at p in omega arith)
+    ]
+  ]
+
+  pub end-closes : last ≡ endFrom left bytes i end → (i < end) × (last < length bytes) × Closes left bytes end last
+  unfolding endFrom
+  end-closes p = elim (which (ltb i end && ltb end (length bytes))) [
+    | inl e ↦ (let k : i < end = ltb-true i end (and-l (ltb i end) (ltb end (length bytes)) e) in
+        let l : end < length bytes = ltb-true end (length bytes) (and-r (ltb i end) (ltb end (length bytes)) e) in
+        elim (which (eqb (getD bytes end 0) 44)) [
+          | inl c ↦ elim (which (ltb 0 left)) [
+            | inl d ↦ (let f : last ≡ end = rw (e, c, d) at p in (k, omega arith, inl (f, inl (eqb-true (getD bytes end 0) 44 c, ltb-true 0 left d))))
+            | inr d ↦ absurd (let f : last ≡ i = rw (e, c, d) at p in omega arith)
+          ]
+          | inr c ↦ elim (which (ltb 0 left)) [
+            | inl d ↦ absurd (let f : last ≡ i = rw (e, c, d) at p in omega arith)
+            | inr d ↦ record-closes k l (omega (arith, ltb-false 0 left d)) (rw (e, c, d) at p)
+          ]
+        ])
+    | inr e ↦ absurd (let f : last ≡ i = rw e at p in omega arith)
+  ]
 
 -- ---- turns
 

@@ -4,7 +4,7 @@ use Prim.Native.Nat.{ℕ, _≤_}
 use mathlib.Core.List.{List, [], _∷_, _++_, append-assoc}
 use lib.ListN.{length}
 use lib.Seq.{sets, length-sets}
-use Rattle.records.specs.declared.Reader.{Reader}
+use Rattle.passing.specs.declared.Reader.{Reader}
 use Rattle.field.specs.Field.{top}
 use Rattle.records.specs.Automaton.{feedByte, emits, feedAll, emitted, Fed}
 use Rattle.records.specs.StepLaws.{sets-next}

@@ -11,12 +11,14 @@ use lib.Dec.{leb, ltb, eqb}
 use lib.Seq.{sets, set-out}
 use borrow.Author.Tests.{ltb-false}
 use Rattle.meaning.specs.RowsLaws.{which, and-r, sets-out}
-use Rattle.field.specs.declared.Decimal.{Decimal}
-use Rattle.field.specs.declared.Decimal.the-variants.{Is, IsNot}
-use Rattle.field.specs.Field.{top, decimalOf, returned, untouched}
-use Rattle.field.specs.FieldLaws.{return-none, fresh-none}
-use Rattle.records.specs.declared.Reader.{Reader}
-use Rattle.records.specs.Automaton.{up, bad, ends, fits, passed, taken, fieldEnd, feedByte, shown, fieldEmits, emits}
+use Rattle.ended.specs.declared.Decimal.{Decimal}
+use Rattle.ended.specs.declared.Decimal.the-variants.{Is, IsNot}
+use Rattle.field.specs.Field.{top}
+use Rattle.ended.specs.Decimals.{decimalOf, returned, untouched}
+use Rattle.ended.specs.DecimalLaws.{return-none, fresh-none}
+use Rattle.passing.specs.declared.Reader.{Reader}
+use Rattle.passing.specs.Passing.{up, bad, ends, fits, passed}
+use Rattle.records.specs.Automaton.{taken, fieldEnd, feedByte, shown, fieldEmits, emits}
 
 -- ---- the stores of one byte and of those after it
 

@@ -2,8 +2,8 @@
 // which, / stands for LF, | for CR, @ for NUL and {}~ for a byte order mark. Each is read whole and a byte at a time.
 use libc::STDIN_FILENO;
 use libc::STDOUT_FILENO;
+use passing::Reader;
 use records::Answer;
-use records::Reader;
 
 fn reader_of(letter: u8) -> Reader {
     match letter {

@@ -22,6 +22,7 @@ fn put_end(out: &mut [u8], at: usize, a: u64, b: u64) -> usize
     lines::put(out, t, LF)
 }
 
+// The line REFUSED,number,place.
 pub fn put_refusal(out: &mut [u8], at: usize, r: Refusal) -> usize
     ensures { λ n. ⌜ Put (now (out .entry)) at (refusalLine r) (now (out .exit)) n ⌝ }
 {

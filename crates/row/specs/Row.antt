@@ -1,23 +1,18 @@
 -- What is read of a row of timer blocks, block by block from the first, and what a scan and a run over a lent row leave.
 use mathlib.Core.Path.{_≡_}
-use Prim.Native.Nat.{ℕ, zero, suc, _≤_}
-use mathlib.Core.Bool.{Bool, true, false, _&&_}
+use Prim.Native.Nat.{ℕ, suc}
+use mathlib.Core.Bool.{Bool, _&&_}
 use mathlib.Core.List.{List, [], _∷_}
-use lib.ListN.{getD}
 use lib.Seq.{sets}
-use lib.Dec.{leb, ltb}
 use Rattle.meaning.specs.declared.Block.{Block}
-use Rattle.instruction.specs.Effect.{withBit}
+use Rattle.values.specs.Value.{withBit}
+use Rattle.block.specs.Called.{inItsTime}
 use Rattle.il.specs.Run.{Whole, wholeScan, fresh}
 
 -- the blocks' Q as a word, T1's the lowest bit; a word has no bit for a block after the 64th
 unfoldable pub qWord : ℕ → List Block → ℕ → ℕ
 qWord i [] qs = qs
 qWord i (b ∷ bs) qs = qWord (suc i) bs (withBit qs i (b .q))
-
--- block i, from 0, has its time among 32, and its ET is not above it
-unfoldable pub inItsTime : ℕ → Block → List ℕ → Bool
-inItsTime i b ts = ltb i 32 && leb (b .et) (getD ts i 0)
 
 unfoldable pub inTime : ℕ → List Block → List ℕ → Bool → Bool
 inTime i [] ts ok = ok

@@ -12,11 +12,12 @@ use Rattle.meaning.specs.Machine.{wordOf}
 use Rattle.meaning.specs.Programs.{Program, instructions}
 use Rattle.meaning.specs.Scan.{Controller, blank, scanned, outputWord, scannedAll, outputTrace}
 use Rattle.meaning.specs.declared.Block.{Block}
-use Rattle.instruction.specs.Effect.{withBit, qsOf}
-use Rattle.instruction.specs.Bits.{word-set}
+use Rattle.values.specs.Value.{withBit, qsOf}
+use Rattle.values.specs.Bits.{word-set}
 use Rattle.il.specs.Run.{Whole}
-use Rattle.il.specs.Scans.{holding, wholeFrom, afterScan, outputAfter, Fitting, scan-right, after-length}
-use Rattle.row.specs.Row.{qWord, inItsTime, inTime, scanOf, RowScan, Over, runOf, RowRun}
+use Rattle.il.specs.Scans.{holding, wholeFrom, afterScan, outputAfter, Fitting, scan-right, after-length, OneScan}
+use Rattle.block.specs.Called.{inItsTime}
+use Rattle.row.specs.Row.{qWord, inTime, scanOf, RowScan, Over, runOf, RowRun}
 
 -- ---- one turn
 
@@ -111,6 +112,16 @@ pub row-scan-right : (d x : ℕ) (p : Program) (ws fs : List ℕ) (bs : List Blo
     → (holding (scanOf d x ws fs bs .ff) (scanOf d x ws fs bs .bs) ≡ scanned d x (instructions p) (holding fs bs)) × (scanOf d x ws fs bs .s .outputs ≡ outputWord d x (instructions p) (holding fs bs))
 unfolding afterScan outputAfter
 row-scan-right d x p ws fs bs f h = rw (scan-of d x ws fs bs h) (scan-right d x p ws (holding fs bs) f h)
+
+-- a scan over a row is the scan of the controller that holds it
+pub row-one-scan : {d x : ℕ} {ws fs : List ℕ} {bs : List Block} {fs′ : List ℕ} {bs′ : List Block} {o : ℕ} → length bs ≤ 64
+    → RowScan d x ws fs bs fs′ bs′ o → OneScan d x ws (holding fs bs) (holding fs′ bs′) o
+unfolding afterScan outputAfter
+row-one-scan {d} {x} {ws} {fs} {bs} {fs′} {bs′} {o} h s =
+    let w = scan-of d x ws fs bs h in
+    let e : holding fs′ bs′ ≡ afterScan d x ws (holding fs bs) = rw (s .flipFlops, s .blocks, w) in
+    let g : o ≡ outputAfter d x ws (holding fs bs) = s .outputs ∙ ap (λ (z : Whole). z .s .outputs) w in
+    record { controller = e; word = g; right = λ p f. (let r = scan-right d x p ws (holding fs bs) f h in (e ∙ r .0, g ∙ r .1)) }
 
 few-after : (d x : ℕ) (p : Program) (ws fs : List ℕ) (bs : List Block) → Fitting p ws → length bs ≤ 64 → length (scanOf d x ws fs bs .bs) ≤ 64
 unfolding afterScan

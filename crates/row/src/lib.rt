@@ -1,15 +1,15 @@
 // The timer blocks as they are lent: one row of records. Every function over a row is thin; what they do to a block, a word
 // or a byte is done by others, by value.
-use il::Stop;
 use meaning::Block;
 ghost use mathlib.Core.Path.{_≡_};
-ghost use mathlib.Core.Bool.{Bool, _&&_};
+ghost use mathlib.Core.Bool.{Bool};
 ghost use Prim.Native.Nat.{_<_};
 ghost use lib.ListN.{length, set, getD};
 ghost use Rattle.meaning.specs.Scan.{blank};
-ghost use Rattle.instruction.specs.Effect.{withBit, calledWith};
+ghost use Rattle.block.specs.Called.{calledWith};
 ghost use Rattle.controller.specs.Sizes.{rungsIn, noRungs};
-ghost use Rattle.row.specs.Row.{qWord, inItsTime, inTime, RowScan, RowRun};
+ghost use Rattle.il.specs.Scans.{holding, OneScan};
+ghost use Rattle.row.specs.Row.{qWord, inTime, RowScan, RowRun};
 
 // One block, copied out of the row.
 fn at(blocks: &[Block], n: usize) -> Block
@@ -25,18 +25,9 @@ fn call(blocks: &mut [Block], n: usize, on: bool, pt: u32, step: u32) -> bool
     ensures { λ r. ⌜ (now (blocks .exit) ≡ set (now (blocks .entry)) n (calledWith step on pt (getD (now (blocks .entry)) n blank)))
         × (r ≡ calledWith step on pt (getD (now (blocks .entry)) n blank) .q) ⌝ }
 {
-    let b = instruction::cal(blocks[n], on, pt, step);
+    let b = block::cal(blocks[n], on, pt, step);
     blocks[n] = b;
     b.q
-}
-
-fn with_q(qs: u64, i: usize, b: Block) -> u64
-    ensures { λ r. ⌜ r ≡ withBit qs i (b .q) ⌝ }
-{
-    if 63 < i {
-        return qs;
-    }
-    instruction::with_bit(qs, i as u16, b.q)
 }
 
 // The blocks' Q as a word.
@@ -47,22 +38,10 @@ fn q_word(blocks: &[Block]) -> u64
     let mut i: usize = 0;
     while i < blocks.len() {
         let b = at(blocks, i);
-        qs = with_q(qs, i, b);
+        qs = block::with_q(qs, i, b);
         i += 1;
     }
     qs
-}
-
-fn also_in_time(times: [u32; 32], ok: bool, i: usize, b: Block) -> bool
-    ensures { λ r. ⌜ r ≡ (ok && inItsTime i b times) ⌝ }
-{
-    let et = b.et;
-    if ok {
-        if i < 32 {
-            return et <= times[i];
-        }
-    }
-    false
 }
 
 // "block with ET above its rung's time": the words tell the times of the rungs.
@@ -74,17 +53,10 @@ pub fn in_time(blocks: &[Block], words: &[u32]) -> bool
     let mut i: usize = 0;
     while i < blocks.len() {
         let b = at(blocks, i);
-        ok = also_in_time(times, ok, i, b);
+        ok = block::also_in_time(times, ok, i, b);
         i += 1;
     }
     ok
-}
-
-fn outputs_of(t: Stop) -> u64
-    ensures { λ r. ⌜ r ≡ t .running .outputs ⌝ }
-{
-    let s = t.running;
-    s.outputs
 }
 
 // One scan over the lent flip-flop bytes and blocks.
@@ -100,9 +72,30 @@ pub fn scan(words: &[u32], step: u32, x: u64, ff: &mut [u8], blocks: &mut [Block
             let q = call(blocks, t.block, t.on, t.pt, step);
             p = il::resume(t, q);
         } else {
-            return outputs_of(t);
+            return il::outputs(t);
         }
     }
+}
+
+// What a scan over a row of 32 leaves by value: the blocks and the output word.
+pub struct Scanned {
+    pub blocks: [Block; 32],
+    pub outputs: u64,
+}
+
+fn left(blocks: [Block; 32], outputs: u64) -> Scanned
+    ensures { λ r. ⌜ (r .blocks ≡ blocks) × (r .outputs ≡ outputs) ⌝ }
+{
+    Scanned { blocks, outputs }
+}
+
+// One scan, with the blocks by value.
+pub fn scan_array(words: &[u32], step: u32, x: u64, ff: &mut [u8], row: [Block; 32]) -> Scanned
+    ensures { λ r. ⌜ OneScan step x (now (words .entry)) (holding (now (ff .entry)) row) (holding (now (ff .exit)) (r .blocks)) (r .outputs) ⌝ }
+{
+    let mut blocks = row;
+    let outputs = scan(words, step, x, ff, &mut blocks);
+    left(blocks, outputs)
 }
 
 // One scan for each input word; the output words go to the results, from the front.
@@ -119,17 +112,10 @@ pub fn run(
 {
     let mut n: usize = 0;
     while n < inputs.len() {
-        let x = input(inputs, n);
+        let x = il::input(inputs, n);
         let w = scan(words, step, x, ff, blocks);
         il::put_word(results, n, w);
         n += 1;
     }
     n
-}
-
-fn input(inputs: &[u64], i: usize) -> u64
-    requires { ⌜ i < length (now inputs) ⌝ }
-    ensures { λ r. ⌜ r ≡ getD (now (inputs .entry)) i 0 ⌝ }
-{
-    inputs[i]
 }

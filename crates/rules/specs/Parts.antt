@@ -1,36 +1,11 @@
--- Parts of the tests of Check.antt that have a function of their own.
+-- A part of the test of MOVE that has a function of its own.
 use mathlib.Core.Path.{_≡_}
-use mathlib.Core.Bool.{Bool, not, _&&_, _||_, and-assoc}
-use Prim.Native.Nat.{ℕ, _/_, _%_}
-use lib.Dec.{eqb, leb}
-use lib.ListN.{length}
+use mathlib.Core.Bool.{Bool, not, _&&_, _||_}
+use Prim.Native.Nat.{ℕ}
 use lib.IntN.{ℤ}
-use Rattle.meaning.specs.Tables.{Tables, stateRow, moveRow, pairRow, mostStates, mostMoves, mostTimers, mostPairs, mostInputs, mostOutputs, mostStep, stateCount, moveCount, timerCount, pairCount, cell, target}
+use Rattle.meaning.specs.Tables.{Tables, cell, target}
 use Rattle.meaning.specs.Hierarchy.{leaf}
-use Rattle.meaning.specs.Literals.{between}
-use Rattle.meaning.specs.Check.{sizePasses, below}
-
--- SIZE: "slice no whole number of rows", by the lengths of the slices
-abbrev pub rowsWhole : ℕ → ℕ → ℕ → ℕ → Bool
-rowsWhole states moves timerPairs outputPairs =
-    eqb (states % stateRow) 0 && eqb (moves % moveRow) 0 && eqb (timerPairs % pairRow) 0 && eqb (outputPairs % pairRow) 0
-
--- SIZE: "count .. beyond its limit, no state", by the numbers of rows
-abbrev pub countsFit : ℕ → ℕ → ℕ → ℕ → ℕ → Bool
-countsFit states moves timers timerPairs outputPairs =
-    between 1 mostStates states && leb moves mostMoves && leb timers mostTimers && leb timerPairs mostPairs && leb outputPairs mostPairs
-
--- SIZE: "count or scan step beyond its limit"
-abbrev pub frameFits : ℕ → ℕ → ℕ → Bool
-frameFits inputs outputs step = leb inputs mostInputs && leb outputs mostOutputs && between 1 mostStep step
-
--- the three are all of SIZE
-pub size-parts : (c : Tables) → sizePasses c
-    ≡ (rowsWhole (length (c .states)) (length (c .moves)) (length (c .timerPairs)) (length (c .outputPairs))
-    && countsFit (length (c .states) / 2) (length (c .moves) / 11) (length (c .presets)) (length (c .timerPairs) / 2) (length (c .outputPairs) / 2)
-    && frameFits (c .inputs) (c .outputs) (c .step))
-unfolding sizePasses stateCount moveCount timerCount pairCount
-size-parts c = simp and-assoc
+use Rattle.meaning.specs.Check.{below}
 
 -- MOVE: "other mark, mark 1 on a leaf"
 abbrev pub markPasses : Tables → ℕ → Bool

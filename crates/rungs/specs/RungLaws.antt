@@ -19,15 +19,16 @@ use Rattle.meaning.specs.Written.{groupBits, pathBits, bitStore, literalTests, 
 use Rattle.meaning.specs.declared.Operand.the-variants.{Mx}
 use Rattle.meaning.specs.declared.Operator.{Operator}
 use Rattle.meaning.specs.declared.Operator.the-variants.{Ld, St}
-use Rattle.format.specs.Text.{line, operatorText}
+use Rattle.format.specs.Text.{bytes, decimal, line, operatorText}
 use Rattle.layout.specs.LaidLaws.{total-is}
 use Rattle.layout.specs.declared.Layout.{Layout}
 use Rattle.lines.specs.Fit.{Fit}
-use Rattle.bits.specs.declared.Way.the-variants.{Store}
+use Rattle.spelling.specs.Blocks.{on-block}
+use Rattle.ways.specs.declared.Way.the-variants.{Store}
 use Rattle.bits.specs.declared.Spot.{Spot}
 use Rattle.bits.specs.Sent.{lines, Sent, bitAt, Drawn}
 use Rattle.bits.specs.SentLaws.{group-stored, path-stored}
-use Rattle.rungs.specs.PairLaws.{and-lines}
+use Rattle.bodies.specs.PairLaws.{and-lines}
 use Rattle.rungs.specs.Rungs.{storesOf, isNil}
 
 -- ---- stores
@@ -77,6 +78,10 @@ none-measured [] r e = rw e
 none-measured (o ∷ is) r e = ne-eqb r 0 (λ z. let h = lines-some o is in omega arith)
 
 -- ---- rungs
+
+-- a line on a block
+pub block-line : {l m : List ℕ} {i r : ℕ} (w t : List ℕ) (n : ℕ) → Fit l i (w ++ (bytes "T" ++ (decimal n ++ line t))) m r → Fit l i (line (w ++ (bytes "T" ++ (decimal n ++ t)))) m r
+block-line w t n p = rw (on-block w t n) p
 
 pub copy-lines : (c : Tables) (b : ℕ) → flatMap rungOf (copyRungs c b) ≡ Ld (Mx (flipFlops c + b)) ∷ St (Mx b) ∷ []
 unfolding flatMap rungOf copyRungs rungWith andBody orBody chain bodyOf loadOf

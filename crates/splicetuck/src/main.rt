@@ -2,11 +2,11 @@
 // and prints what the library `printing` makes of them. Every byte on standard output comes from there.
 mod message;
 
+use files::Answers;
 use libc::STDOUT_FILENO;
 use meaning::Verdict;
-use printing::Answers;
+use passing::Reader;
 use records::Answer;
-use records::Reader;
 
 // What a read of a file came to.
 enum Turn {
@@ -15,9 +15,24 @@ enum Turn {
     Failed,
 }
 
-enum Loaded {
-    Read(Answer),
-    Failed,
+// What the reader of a file answered, if the file could be read.
+struct Loaded {
+    read: bool,
+    answer: Answer,
+}
+
+fn failed() -> Loaded {
+    Loaded {
+        read: false,
+        answer: Answer::Rows(0),
+    }
+}
+
+fn answered(r: Reader, out: &mut [u64]) -> Loaded {
+    Loaded {
+        read: true,
+        answer: records::finish(r, out),
+    }
 }
 
 // One piece of the file. Keeping the loop out of it lets Rattle prove it with no proof file.
@@ -59,9 +74,9 @@ fn feed_all(fd: i32, path: &[u8], r: Reader, out: &mut [u64]) -> Turn {
 
 fn finish(t: Turn, out: &mut [u64]) -> Loaded {
     match t {
-        Turn::End(last) => Loaded::Read(records::finish(last, out)),
-        Turn::More(_) => Loaded::Failed,
-        Turn::Failed => Loaded::Failed,
+        Turn::End(last) => answered(last, out),
+        Turn::More(_) => failed(),
+        Turn::Failed => failed(),
     }
 }
 
@@ -70,10 +85,10 @@ fn load_at(path: &[u8], r: Reader, out: &mut [u64]) -> Loaded {
     let fd = os::open_read(path);
     if fd < 0 {
         if os::errno() == libc::ENOENT {
-            return Loaded::Read(records::finish(r, out));
+            return answered(r, out);
         }
         os::fail(path);
-        return Loaded::Failed;
+        return failed();
     }
     let t = feed_all(fd, path, r, out);
     libc::close(fd);
@@ -84,13 +99,16 @@ fn load_at(path: &[u8], r: Reader, out: &mut [u64]) -> Loaded {
 fn load_in(path: &[u8], n: usize, r: Reader, out: &mut [u64]) -> Loaded {
     if path.len() < n {
         message::say(b"splicetuck: the folder's name is too long\n");
-        return Loaded::Failed;
+        return failed();
     }
     load_at(&path[..n], r, out)
 }
 
-// The file of that name in the folder.
-fn load(folder: &[u8], name: &[u8], r: Reader, out: &mut [u64]) -> Loaded {
+// The file of that name in the folder, unless one before it could not be read.
+fn load(before: bool, folder: &[u8], name: &[u8], r: Reader, out: &mut [u64]) -> Loaded {
+    if !before {
+        return failed();
+    }
     let mut path = [0u8; 8192];
     let p = lines::put_bytes(&mut path, 0, folder);
     let q = lines::put(&mut path, p, b'/');
@@ -120,7 +138,7 @@ fn show(
     presets: &[u64; 33],
     timer_pairs: &[u64; 4098],
     output_pairs: &[u64; 4098],
-    scans: &[u64],
+    scans: &[u64; 4096],
 ) {
     // More than the most that is printed (`mostPrinted` in printing/specs/Lengths.antt).
     let mut out = [0u8; 327680];
@@ -146,56 +164,100 @@ fn show(
     }
 }
 
-// A row more is kept of each table than its limit, so that the check itself says SIZE.
-fn run(folder: &[u8]) {
-    let mut frame = [0u64; 3];
-    let f = load(folder, b"frame.csv", Reader::frame(), &mut frame);
-    let Loaded::Read(frame_answer) = f else {
-        return;
-    };
-    let mut states = [0u64; 514];
-    let s = load(folder, b"states.csv", Reader::states(), &mut states);
-    let Loaded::Read(states_answer) = s else {
-        return;
-    };
-    let mut moves = [0u64; 5643];
-    let m = load(folder, b"moves.csv", Reader::moves(), &mut moves);
-    let Loaded::Read(moves_answer) = m else {
-        return;
-    };
-    let mut presets = [0u64; 33];
-    let d = load(folder, b"presets.csv", Reader::presets(), &mut presets);
-    let Loaded::Read(presets_answer) = d else {
-        return;
-    };
-    let mut timer_pairs = [0u64; 4098];
-    let t = load(folder, b"timerpairs.csv", Reader::pairs(), &mut timer_pairs);
-    let Loaded::Read(timers_answer) = t else {
-        return;
-    };
-    let mut output_pairs = [0u64; 4098];
-    let o = load(
-        folder,
-        b"outputpairs.csv",
-        Reader::pairs(),
-        &mut output_pairs,
-    );
-    let Loaded::Read(outputs_answer) = o else {
-        return;
-    };
-    let mut scans = [0u64; 4096];
-    let x = load(folder, b"scans.csv", Reader::scans(), &mut scans);
-    let Loaded::Read(scans_answer) = x else {
-        return;
-    };
-    let answers = Answers {
+// What the readers of the first four files answered, if these could be read.
+struct First {
+    read: bool,
+    frame: Answer,
+    states: Answer,
+    moves: Answer,
+    presets: Answer,
+}
+
+enum LoadedAll {
+    Read(Answers),
+    Failed,
+}
+
+fn load_first(
+    folder: &[u8],
+    frame: &mut [u64; 3],
+    states: &mut [u64; 514],
+    moves: &mut [u64; 5643],
+    presets: &mut [u64; 33],
+) -> First {
+    let f = load(true, folder, b"frame.csv", Reader::frame(), frame);
+    let s = load(f.read, folder, b"states.csv", Reader::states(), states);
+    let m = load(s.read, folder, b"moves.csv", Reader::moves(), moves);
+    let d = load(m.read, folder, b"presets.csv", Reader::presets(), presets);
+    let frame_answer = f.answer;
+    let states_answer = s.answer;
+    let moves_answer = m.answer;
+    let presets_answer = d.answer;
+    First {
+        read: d.read,
         frame: frame_answer,
         states: states_answer,
         moves: moves_answer,
         presets: presets_answer,
-        timer_pairs: timers_answer,
-        output_pairs: outputs_answer,
+    }
+}
+
+fn load_rest(
+    folder: &[u8],
+    first: First,
+    timers: &mut [u64; 4098],
+    outputs: &mut [u64; 4098],
+    scans: &mut [u64; 4096],
+) -> LoadedAll {
+    let t = load(
+        first.read,
+        folder,
+        b"timerpairs.csv",
+        Reader::pairs(),
+        timers,
+    );
+    let o = load(t.read, folder, b"outputpairs.csv", Reader::pairs(), outputs);
+    let x = load(o.read, folder, b"scans.csv", Reader::scans(), scans);
+    if !x.read {
+        return LoadedAll::Failed;
+    }
+    let frame = first.frame;
+    let states = first.states;
+    let moves = first.moves;
+    let presets = first.presets;
+    let timer_pairs = t.answer;
+    let output_pairs = o.answer;
+    let scans_answer = x.answer;
+    LoadedAll::Read(Answers {
+        frame,
+        states,
+        moves,
+        presets,
+        timer_pairs,
+        output_pairs,
         scans: scans_answer,
+    })
+}
+
+// A row more is kept of each table than its limit, so that the check itself says SIZE.
+fn run(folder: &[u8]) {
+    let mut frame = [0u64; 3];
+    let mut states = [0u64; 514];
+    let mut moves = [0u64; 5643];
+    let mut presets = [0u64; 33];
+    let mut timer_pairs = [0u64; 4098];
+    let mut output_pairs = [0u64; 4098];
+    let mut scans = [0u64; 4096];
+    let first = load_first(folder, &mut frame, &mut states, &mut moves, &mut presets);
+    let r = load_rest(
+        folder,
+        first,
+        &mut timer_pairs,
+        &mut output_pairs,
+        &mut scans,
+    );
+    let LoadedAll::Read(answers) = r else {
+        return;
     };
     show(
         answers,

@@ -1,32 +1,45 @@
 // What goes to standard error: one line in words.
+use files::Answers;
 use libc::STDERR_FILENO;
 use meaning::Refusal;
-use printing::Answers;
 use records::Answer;
 
 pub fn say(text: &[u8]) {
     io::write_all(STDERR_FILENO, text);
 }
 
-fn print_name(r: Refusal) {
-    match r {
-        Refusal::Size => say(b"SIZE"),
-        Refusal::Hierarchy(_) => say(b"HIERARCHY"),
-        Refusal::Initial(_) => say(b"INITIAL"),
-        Refusal::Preset(_) => say(b"PRESET"),
-        Refusal::TimerPair(_) => say(b"TIMER PAIR"),
-        Refusal::OutputPair(_) => say(b"OUTPUT PAIR"),
-        Refusal::Move(_) => say(b"MOVE"),
-        Refusal::Literal(_) => say(b"LITERAL"),
-        Refusal::IdleTimer(_) => say(b"IDLE TIMER"),
-        Refusal::Overlap(_) => say(b"OVERLAP"),
-        Refusal::FlipFlops => say(b"FLIP-FLOPS"),
-        Refusal::Room(_) => say(b"ROOM"),
-        Refusal::Text(_) => say(b"TEXT"),
-        Refusal::State => say(b"STATE"),
-        Refusal::Scans => say(b"SCANS"),
-        Refusal::Field(_) => say(b"FIELD"),
+// The n-th part of a text, counted from 0; each part ends in ";".
+fn say_part(text: &[u8], n: u32) {
+    let mut left = n;
+    let mut from = 0;
+    let mut at = 0;
+    while at < text.len() {
+        if text[at] == b';' {
+            if left == 0 {
+                say(&text[from..at]);
+                return;
+            }
+            left -= 1;
+            from = at + 1;
+        }
+        at += 1;
     }
+}
+
+// By number; none has number 0.
+fn print_name(number: u32) {
+    say_part(
+        b";SIZE;HIERARCHY;INITIAL;PRESET;TIMER PAIR;OUTPUT PAIR;MOVE;LITERAL;IDLE TIMER;OVERLAP;FLIP-FLOPS;ROOM;TEXT;STATE;SCANS;FIELD;",
+        number,
+    );
+}
+
+// The files, counted from 0.
+fn print_file(file: u32) {
+    say_part(
+        b"frame.csv;states.csv;moves.csv;presets.csv;timerpairs.csv;outputpairs.csv;scans.csv;",
+        file,
+    );
 }
 
 fn print_number(n: usize) {
@@ -38,9 +51,9 @@ fn one_more(n: usize) -> usize {
 }
 
 // A record is counted from 0 in the place, and from 1 as a spreadsheet shows it.
-fn print_record(file: &[u8], record: usize) {
+fn print_record(file: u32, record: usize) {
     say(b": ");
-    say(file);
+    print_file(file);
     say(b", record ");
     print_number(record);
     say(b" (row ");
@@ -48,50 +61,50 @@ fn print_record(file: &[u8], record: usize) {
     say(b" in a spreadsheet)");
 }
 
-fn is_refused(a: Answer) -> bool {
+// That file, if its reader refused it.
+fn or_else(a: Answer, file: u32, later: u32) -> u32 {
     match a {
-        Answer::Rows(_) => false,
-        Answer::Refused(_) => true,
+        Answer::Rows(_) => later,
+        Answer::Refused(_) => file,
     }
-}
-
-fn print_later_field(a: Answers, record: usize) {
-    let timer_pairs = a.timer_pairs;
-    if is_refused(timer_pairs) {
-        print_record(b"timerpairs.csv", record);
-        return;
-    }
-    let output_pairs = a.output_pairs;
-    if is_refused(output_pairs) {
-        print_record(b"outputpairs.csv", record);
-        return;
-    }
-    print_record(b"scans.csv", record);
 }
 
 // FIELD is of the first file that is refused.
-fn print_field(a: Answers, record: usize) {
+fn refused_file(a: Answers) -> u32 {
     let frame = a.frame;
-    if is_refused(frame) {
-        print_record(b"frame.csv", record);
-        return;
-    }
     let states = a.states;
-    if is_refused(states) {
-        print_record(b"states.csv", record);
-        return;
-    }
     let moves = a.moves;
-    if is_refused(moves) {
-        print_record(b"moves.csv", record);
-        return;
-    }
     let presets = a.presets;
-    if is_refused(presets) {
-        print_record(b"presets.csv", record);
-        return;
+    let timer_pairs = a.timer_pairs;
+    let output_pairs = a.output_pairs;
+    let from_outputs = or_else(output_pairs, 5, 6);
+    let from_timers = or_else(timer_pairs, 4, from_outputs);
+    let from_presets = or_else(presets, 3, from_timers);
+    let from_moves = or_else(moves, 2, from_presets);
+    let from_states = or_else(states, 1, from_moves);
+    or_else(frame, 0, from_states)
+}
+
+// The file whose record is the place of the refusal, or 7 where the place is none.
+fn file_of(r: Refusal, refused: u32) -> u32 {
+    match r {
+        Refusal::Size => 7,
+        Refusal::Hierarchy(_) => 1,
+        Refusal::Initial(_) => 1,
+        Refusal::Preset(_) => 3,
+        Refusal::TimerPair(_) => 4,
+        Refusal::OutputPair(_) => 5,
+        Refusal::Move(_) => 2,
+        Refusal::Literal(_) => 2,
+        Refusal::IdleTimer(_) => 2,
+        Refusal::Overlap(_) => 2,
+        Refusal::FlipFlops => 7,
+        Refusal::Room(_) => 7,
+        Refusal::Text(_) => 7,
+        Refusal::State => 7,
+        Refusal::Scans => 7,
+        Refusal::Field(_) => refused,
     }
-    print_later_field(a, record);
 }
 
 fn print_room(length: usize) {
@@ -100,33 +113,30 @@ fn print_room(length: usize) {
     say(b" bytes, and 65536 are the most");
 }
 
-fn print_place(r: Refusal, a: Answers) {
-    match r {
-        Refusal::Size => say(
-            b": there is no state, a table has too many rows, or the frame is beyond its limits",
-        ),
-        Refusal::Hierarchy(p) => print_record(b"states.csv", p),
-        Refusal::Initial(p) => print_record(b"states.csv", p),
-        Refusal::Preset(p) => print_record(b"presets.csv", p),
-        Refusal::TimerPair(p) => print_record(b"timerpairs.csv", p),
-        Refusal::OutputPair(p) => print_record(b"outputpairs.csv", p),
-        Refusal::Move(p) => print_record(b"moves.csv", p),
-        Refusal::Literal(p) => print_record(b"moves.csv", p),
-        Refusal::IdleTimer(p) => print_record(b"moves.csv", p),
-        Refusal::Overlap(p) => print_record(b"moves.csv", p),
-        Refusal::FlipFlops => say(b": more than 128"),
-        Refusal::Room(n) => print_room(n),
-        Refusal::Text(_) => say(b""),
-        Refusal::State => say(b""),
-        Refusal::Scans => say(b""),
-        Refusal::Field(p) => print_field(a, p),
+// What is wrong, where that is no record.
+fn print_reason(number: u32, place: usize) {
+    if number == 1 {
+        say(b": there is no state, a table has too many rows, or the frame is beyond its limits");
+    }
+    if number == 11 {
+        say(b": more than 128");
+    }
+    if number == 12 {
+        print_room(place);
     }
 }
 
 // The line for a refusal.
 pub fn refusal(r: Refusal, a: Answers) {
+    let number = meaning::number(r);
+    let place = meaning::place(r);
+    let file = file_of(r, refused_file(a));
     say(b"splicetuck: refused, ");
-    print_name(r);
-    print_place(r, a);
+    print_name(number);
+    if file < 7 {
+        print_record(file, place);
+    } else {
+        print_reason(number, place);
+    }
     say(b"\n");
 }

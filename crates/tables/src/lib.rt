@@ -66,24 +66,28 @@ fn in_row(table: &[u16], i: usize, j: usize) -> usize
     wide(table[from + j])
 }
 
+// The super-state of s.
 pub fn super_state(states: &[u16], s: usize) -> usize
     ensures { λ r. ⌜ ((c : Tables) → c .states ≡ now (states .entry) → r ≡ superState c s) ⌝ }
 {
     in_row(states, s, 0)
 }
 
+// The initial sub-state of s, 0 for a leaf.
 pub fn initial(states: &[u16], s: usize) -> usize
     ensures { λ r. ⌜ ((c : Tables) → c .states ≡ now (states .entry) → r ≡ initial c s) ⌝ }
 {
     in_row(states, s, 1)
 }
 
+// The timer or output of row i of a pair table.
 pub fn pair_number(pairs: &[u16], i: usize) -> usize
     ensures { λ r. ⌜ r ≡ pairNumber (now (pairs .entry)) i ⌝ }
 {
     in_row(pairs, i, 0)
 }
 
+// The state of row i of a pair table.
 pub fn pair_state(pairs: &[u16], i: usize) -> usize
     ensures { λ r. ⌜ r ≡ pairState (now (pairs .entry)) i ⌝ }
 {
@@ -144,24 +148,28 @@ pub fn wanted(v: i16) -> bool
     !(v < 0)
 }
 
+// The source of move i.
 pub fn source(moves: &[i16], i: usize) -> usize
     ensures { λ r. ⌜ ((c : Tables) → c .moves ≡ now (moves .entry) → r ≡ source c i) ⌝ }
 {
     wide(size(cell(moves, i, 0)))
 }
 
+// The target of move i.
 pub fn target(moves: &[i16], i: usize) -> usize
     ensures { λ r. ⌜ ((c : Tables) → c .moves ≡ now (moves .entry) → r ≡ target c i) ⌝ }
 {
     wide(size(cell(moves, i, 1)))
 }
 
+// The mark of move i: 0 plain, 1 history.
 pub fn mark(moves: &[i16], i: usize) -> usize
     ensures { λ r. ⌜ ((c : Tables) → c .moves ≡ now (moves .entry) → r ≡ mark c i) ⌝ }
 {
     wide(size(cell(moves, i, 2)))
 }
 
+// Literal place j of move i.
 pub fn literal(moves: &[i16], i: usize, j: u8) -> i16
     ensures { λ r. ⌜ ((c : Tables) → c .moves ≡ now (moves .entry) → r ≡ literal c i j) ⌝ }
 {

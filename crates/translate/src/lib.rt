@@ -6,6 +6,7 @@ ghost use mathlib.Core.Path.{_≡_};
 ghost use Rattle.tables.specs.Given.{tablesOf};
 ghost use Rattle.translate.specs.Texts.{ChartWritten};
 
+// The text of any tables, or why there is none.
 pub fn write(
     chart: Chart,
     states: &[u16],

@@ -1,4 +1,3 @@
 pub mod WrittenRan
-pub mod Going
 pub mod WholeLaws
 pub mod Once

@@ -35,9 +35,10 @@ use Rattle.reader.specs.WaysBack.{written-read}
 use Rattle.writer.specs.declared.Written.{Written}
 use Rattle.writer.specs.declared.Written.the-variants as W
 use Rattle.translate.specs.Texts.{answerFor, leftFor, ChartWritten}
+use Rattle.written_run.specs.AsRead.{chartWords, AsRead}
 use Rattle.whole.specs.declared.Outcome.{Outcome}
 use Rattle.whole.specs.declared.Outcome.the-variants as O
-use Rattle.whole.specs.WrittenRan.{chartWords, roomCheck, laterChecks, runVerdict, outcome, RanBy, WrittenRan, AsRead, ReadAndRun, noScans}
+use Rattle.whole.specs.WrittenRan.{roomCheck, laterChecks, runVerdict, outcome, RanBy, WrittenRan, ReadAndRun, noScans}
 
 -- ---- reading back
 

@@ -9,21 +9,16 @@ use Rattle.meaning.specs.Check.{Check, verdictOf, checks}
 use Rattle.meaning.specs.Calls.{scansCheck, overlaid}
 use Rattle.meaning.specs.Machine.{Seen}
 use Rattle.meaning.specs.History.{reading}
-use Rattle.meaning.specs.Written.{program}
 use Rattle.meaning.specs.declared.Refusal.the-variants as R
 use Rattle.meaning.specs.declared.Verdict.{Verdict}
 use Rattle.meaning.specs.declared.Verdict.the-variants.{Accepted, Refused}
-use Rattle.format.specs.Words.{words}
 use Rattle.format.specs.Places.{room}
 use Rattle.format.specs.Printed.{chartText}
 use Rattle.format.specs.Bytes.{Translates}
 use Rattle.lent.specs.Slice.{left}
+use Rattle.written_run.specs.AsRead.{chartWords, AsRead}
 use Rattle.whole.specs.declared.Outcome.{Outcome}
 use Rattle.whole.specs.declared.Outcome.the-variants as O
-
--- the words of a chart's program
-abbrev pub chartWords : Tables → List ℕ
-chartWords c = words (program c)
 
 -- 12 ROOM: "result slice too short", with the text's length. A text never has more words than bytes, so that its length is room enough for both, and the shorter slice decides.
 unfoldable pub roomCheck : Tables → ℕ → Check
@@ -62,11 +57,6 @@ one-written-run c xs l ws ls os r s l′ ws′ ls′ os′ l″ ws″ ls″ os�
     (p .answers ∙ sym (q .answers), p .written ∙ sym (q .written), p .read ∙ sym (q .read), p .leaves ∙ sym (q .leaves), p .outputs ∙ sym (q .outputs))
 
 -- ---- the parts
-
--- the leaves and outputs of scans on xs from cleared memory
-pub record AsRead (c : Tables) (xs ls os : List ℕ) : Type 0 where
-  pub leaves : ls ≡ map (λ (e : Seen). e .leaf) (reading c xs)
-  pub outputs : os ≡ map (λ (e : Seen). e .outputs) (reading c xs)
 
 -- the words of a written text, over ws, and their run
 pub record ReadAndRun (c : Tables) (xs ws : List ℕ) (r : Outcome) (ws′ ls′ os′ : List ℕ) : Type 0 where

@@ -1,111 +1,24 @@
 // A chart's text written, read back as words, and the words run from cleared memory: what is lent in the end comes from the
 // bytes that were written, and from nothing else.
-use layout::Layout;
-use meaning::Block;
 use meaning::Refusal;
 use meaning::Verdict;
 use reader::Answer;
 use tables::Chart;
 use writer::Written;
 ghost use mathlib.Core.Path.{_≡_};
-ghost use Prim.Native.Nat.{ℕ, _≤_, min};
-ghost use lib.ListN.{length, set};
+ghost use Prim.Native.Nat.{ℕ, _≤_};
+ghost use lib.ListN.{length};
 ghost use Rattle.meaning.specs.Tables.{Tables};
 ghost use Rattle.meaning.specs.Rules.{Rules};
 ghost use Rattle.meaning.specs.Check.{verdict};
-ghost use Rattle.meaning.specs.Stands.{shownLeaf};
 ghost use Rattle.format.specs.Printed.{chartText};
 ghost use Rattle.tables.specs.Given.{tablesOf};
-ghost use Rattle.layout.specs.Laid.{LaidOut};
-ghost use Rattle.whole.specs.WrittenRan.{chartWords, noScans, AsRead, ReadAndRun, WrittenRan};
-ghost use Rattle.whole.specs.Going.{Ready};
+ghost use Rattle.whole.specs.WrittenRan.{noScans, ReadAndRun, WrittenRan};
 
 // The lengths of the text and of its words, or why there are none.
 pub enum Outcome {
     Ran { text: usize, words: usize },
     Refused(Refusal),
-}
-
-// What is seen after a scan stands at place i of the results: the leaf is decoded from the flip-flops.
-fn show(
-    states: &[u16],
-    laid: Layout,
-    flip_flops: &[u8],
-    word: u64,
-    i: usize,
-    leaves: &mut [u16],
-    outputs: &mut [u64],
-)
-    ensures { λ _. ⌜ (now (outputs .exit) ≡ set (now (outputs .entry)) i word)
-        × ((c : Tables) → c .states ≡ now (states .entry) → Rules c → LaidOut c laid → now (leaves .exit) ≡ set (now (leaves .entry)) i (shownLeaf c (now («flip_flops» .entry)))) ⌝ }
-{
-    moving::remember(leaves, i, shown::laid_leaf(states, laid, flip_flops));
-    il::put_word(outputs, i, word);
-}
-
-// One scan for each input word, from blocks that were never called.
-fn run_scans(
-    step: u32,
-    states: &[u16],
-    laid: Layout,
-    words: &[u32],
-    flip_flops: &mut [u8],
-    inputs: &[u64],
-    leaves: &mut [u16],
-    outputs: &mut [u64],
-)
-    ensures { λ _. ⌜ ((c : Tables) → Ready c step (now (states .entry)) laid (now (words .entry)) (now («flip_flops» .entry))
-        → length (now (leaves .entry)) ≡ length (now (inputs .entry)) → length (now (outputs .entry)) ≡ length (now (inputs .entry))
-        → AsRead c (now (inputs .entry)) (now (leaves .exit)) (now (outputs .exit))) ⌝ }
-{
-    let blank = Block {
-        on: false,
-        pt: 0,
-        et: 0,
-        q: false,
-        last: false,
-    };
-    let mut blocks = [blank; 32];
-    let mut i = 0;
-    while i < inputs.len() {
-        let t = il::scan_core(words, step, inputs[i], flip_flops, blocks);
-        let next = t.blocks;
-        blocks = next;
-        show(states, laid, flip_flops, t.outputs, i, leaves, outputs);
-        i += 1;
-    }
-}
-
-// The words of a chart's program run from cleared memory: "All zero is the start." It has 2 B flip-flops, 256 at most.
-fn run_words(
-    step: u32,
-    states: &[u16],
-    words: &[u32],
-    inputs: &[u64],
-    leaves: &mut [u16],
-    outputs: &mut [u64],
-)
-    ensures { λ _. ⌜ ((c : Tables) → c .step ≡ step → c .states ≡ now (states .entry) → Rules c → chartWords c ≡ now (words .entry)
-        → length (now (leaves .entry)) ≡ length (now (inputs .entry)) → length (now (outputs .entry)) ≡ length (now (inputs .entry))
-        → AsRead c (now (inputs .entry)) (now (leaves .exit)) (now (outputs .exit))) ⌝ }
-{
-    let laid = layout::lay_out(states);
-    let total = laid.total;
-    if Chart::FLIP_FLOPS < total {
-        return;
-    }
-    let used = 2 * (total as usize);
-    let mut flip_flops = [0u8; 256];
-    run_scans(
-        step,
-        states,
-        laid,
-        words,
-        &mut flip_flops[..used],
-        inputs,
-        leaves,
-        outputs,
-    );
 }
 
 // The words of a written text, from the front of the slice, and their run.
@@ -126,7 +39,7 @@ fn read_and_run(
     match read {
         Answer::Refused(r) => Outcome::Refused(r),
         Answer::Read(n) => {
-            run_words(step, states, &words[..n], inputs, leaves, outputs);
+            written_run::run_words(step, states, &words[..n], inputs, leaves, outputs);
             Outcome::Ran {
                 text: text.len(),
                 words: n,
@@ -153,16 +66,7 @@ fn no_scans(
     }
 }
 
-fn shorter(a: usize, b: usize) -> usize
-    ensures { λ r. ⌜ r ≡ min a b ⌝ }
-{
-    if b < a {
-        return b;
-    }
-    a
-}
-
-// The text is written into as much of its slice as the words' slice has room for: a text never has more words than bytes.
+// A chart's text written, read back and run. The text is written into as much of its slice as the words' slice has room for: a text never has more words than bytes.
 pub fn run_written(
     chart: Chart,
     states: &[u16],
@@ -186,7 +90,7 @@ pub fn run_written(
     if outputs.len() != inputs.len() {
         return no_scans(chart, states, moves, presets, timer_pairs, output_pairs);
     }
-    let room = shorter(text.len(), words.len());
+    let room = lengths::shorter(text.len(), words.len());
     let w = translate::write(
         chart,
         states,

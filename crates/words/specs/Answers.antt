@@ -1,11 +1,11 @@
--- What the calls over instruction words answer, and that each has no second answer.
-use mathlib.Core.Path.{_≡_, refl, sym, ap, _∙_}
+-- What the writer of text from words answers, and that it has no second answer.
+use mathlib.Core.Path.{_≡_, sym, _∙_}
 use Prim.Native.Nat.{ℕ, _≤_, _<_}
 use native.Mathlib.Omega.{arith}
 use mathlib.Core.Bool.{true}
 use mathlib.Core.List.{List}
 use lib.ListN.{length}
-use Rattle.meaning.specs.Programs.{Program, instructions, fits, flipFlopBytes}
+use Rattle.meaning.specs.Programs.{Program, fits}
 use Rattle.meaning.specs.Calls.{overlaid}
 use Rattle.meaning.specs.declared.Refusal.the-variants.{Room, Text}
 use Rattle.format.specs.Words.{words, AcceptedWords}
@@ -14,8 +14,6 @@ use Rattle.format.specs.Places.{WordPlace, room}
 use Rattle.format.specs.WordLaws.{words-same, place-same}
 use Rattle.words.specs.declared.Written.{Written}
 use Rattle.words.specs.declared.Written.the-variants.{Wrote, Refused}
-use Rattle.words.specs.declared.Sizes.{Sizes}
-use Rattle.words.specs.declared.Sizes.the-variants as Sized
 
 -- the text t is written into a slice that held out and holds m afterwards, if it has the room
 pub data TextWritten (t out : List ℕ) (r : Written) (m : List ℕ) : Type 0 where
@@ -26,11 +24,6 @@ pub data TextWritten (t out : List ℕ) (r : Written) (m : List ℕ) : Type 0 wh
 pub data WordsWritten (l out : List ℕ) (r : Written) (m : List ℕ) : Type 0 where
   accepted : (p : Program) → fits p ≡ true → words p ≡ l → TextWritten (text p) out r m → WordsWritten l out r m
   refused : (k : ℕ) → WordPlace l k → r ≡ Refused (Text k) → m ≡ out → WordsWritten l out r m
-
--- "flip-flop bytes not one more than the highest %MX the program names (0 if none), blocks not as many as declared"
-pub data SizesTold (l : List ℕ) (r : Sizes) : Type 0 where
-  accepted : (p : Program) → fits p ≡ true → words p ≡ l → r ≡ Sized.Controller (flipFlopBytes (instructions p)) (length (p .timers)) → SizesTold l r
-  refused : (k : ℕ) → WordPlace l k → r ≡ Sized.Refused (Text k) → SizesTold l r
 
 -- ---- no second answer
 
@@ -45,9 +38,3 @@ words-written-same (WordsWritten.accepted p f e w) (WordsWritten.accepted s g d 
 words-written-same (WordsWritten.accepted p f e w) (WordsWritten.refused k h q n) = absurd (h .refused (p, f, e))
 words-written-same (WordsWritten.refused k h r m) (WordsWritten.accepted s g d v) = absurd (h .refused (s, g, d))
 words-written-same {l} (WordsWritten.refused k h r m) (WordsWritten.refused j i q n) = let e = place-same AcceptedWords _ l k j h i in (cc, cc)
-
-pub sizes-told-same : {l : List ℕ} {r q : Sizes} → SizesTold l r → SizesTold l q → r ≡ q
-sizes-told-same (SizesTold.accepted p f e r) (SizesTold.accepted s g d q) = let z = words-same p s f g (e ∙ sym d) in cc
-sizes-told-same (SizesTold.accepted p f e r) (SizesTold.refused k h q) = absurd (h .refused (p, f, e))
-sizes-told-same (SizesTold.refused k h r) (SizesTold.accepted s g d q) = absurd (h .refused (s, g, d))
-sizes-told-same {l} (SizesTold.refused k h r) (SizesTold.refused j i q) = let e = place-same AcceptedWords _ l k j h i in cc

@@ -1,5 +1,5 @@
--- The answers that the calls give are the ones that Answers allows.
-use mathlib.Core.Path.{_≡_, ap, ap₂, _∙_}
+-- The answers that the call gives are the ones that Answers allows.
+use mathlib.Core.Path.{_≡_, ap, _∙_}
 use Prim.Native.Nat.{ℕ, _+_, _^_, _≤_, _<_}
 use native.Mathlib.Omega.{arith}
 use mathlib.Core.List.{List, [], _++_}
@@ -13,9 +13,8 @@ use Rattle.lines.specs.Fit.{Fit}
 use Rattle.phases.specs.Pass.{Holds}
 use Rattle.words.specs.declared.Written.{Written}
 use Rattle.words.specs.declared.Written.the-variants.{Wrote, Refused}
-use Rattle.words.specs.declared.Sizes.the-variants as Sized
-use Rattle.words.specs.Answers.{TextWritten, WordsWritten, SizesTold}
-use Rattle.words.specs.ByWords.{wordsText, wordsBytes, holds-text, holds-bytes}
+use Rattle.words.specs.Answers.{TextWritten, WordsWritten}
+use Rattle.words.specs.ByWords.{wordsText, holds-text}
 
 -- a writer over no bytes measures, and writes nothing
 measured : {t m : List ℕ} {r : ℕ} → Fit [] 0 t m r → m ≡ []
@@ -43,6 +42,3 @@ text-whole {t} {m} {n} {r} {s} out h p k q =
 
 pub words-written : {l out m : List ℕ} {r : Written} {d : ℕ} → Holds l d → TextWritten (wordsText d l) out r m → WordsWritten l out r m
 words-written h w = WordsWritten.accepted (h .program) (h .fitting) (h .listing) (rw (holds-text h) at w)
-
-pub sizes-told : {l : List ℕ} {d b : ℕ} → Holds l d → b ≡ wordsBytes l → SizesTold l (Sized.Controller b d)
-sizes-told h e = SizesTold.accepted (h .program) (h .fitting) (h .listing) (rw (← h .blocks, ← holds-bytes h, e))

@@ -9,9 +9,9 @@ use Rattle.bits.proofs.put_bit.Statement.{statement}
 use Rattle.bits.proofs.put_bit.Tie as tie
 use Rattle.bits.proofs.put_bit.Reads as reads
 use Rattle.bits.proofs.put_bit.Lts as lts
-use Rattle.bits.proofs.next.Reads as next-reads
-use Rattle.bits.proofs.put_asked.Reads as put-asked-reads
-use Rattle.lines.proofs.put_mx.Reads as put-mx-reads
+use Rattle.ways.proofs.next.Reads as next-reads
+use Rattle.ways.proofs.put_asked.Reads as put-asked-reads
+use Rattle.spelling.proofs.put_mx.Reads as put-mx-reads
 
 -- src/lib.rt:69:9
 put-asked-requires : tie.Need-put-asked-requires

@@ -8,9 +8,9 @@ use Rattle.bits.proofs.put_expired.Statement.{statement}
 use Rattle.bits.proofs.put_expired.Tie as tie
 use Rattle.bits.proofs.put_expired.Reads as reads
 use Rattle.bits.proofs.put_expired.Lts as lts
-use Rattle.bits.proofs.next.Reads as next-reads
-use Rattle.bits.proofs.put_asked.Reads as put-asked-reads
-use Rattle.lines.proofs.put_named.Reads as put-named-reads
+use Rattle.ways.proofs.next.Reads as next-reads
+use Rattle.ways.proofs.put_asked.Reads as put-asked-reads
+use Rattle.spelling.proofs.put_named.Reads as put-named-reads
 
 -- src/lib.rt:87:9
 put-asked-requires : tie.Need-put-asked-requires

@@ -5,7 +5,7 @@ use Rattle.bits.proofs.put_group.Statement.{statement}
 use Rattle.bits.proofs.put_group.Tie as tie
 use Rattle.bits.proofs.put_group.Reads as reads
 use Rattle.bits.proofs.put_group.Lts as lts
-use Rattle.bits.proofs.base.Reads as base-reads
+use Rattle.ways.proofs.base.Reads as base-reads
 use Rattle.bits.proofs.put_bits.Reads as put-bits-reads
 
 -- src/lib.rt:141:9

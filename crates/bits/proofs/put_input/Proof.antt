@@ -6,9 +6,9 @@ use Rattle.bits.proofs.put_input.Statement.{statement}
 use Rattle.bits.proofs.put_input.Tie as tie
 use Rattle.bits.proofs.put_input.Reads as reads
 use Rattle.bits.proofs.put_input.Lts as lts
-use Rattle.bits.proofs.next.Reads as next-reads
-use Rattle.bits.proofs.put_asked.Reads as put-asked-reads
-use Rattle.lines.proofs.put_ix.Reads as put-ix-reads
+use Rattle.ways.proofs.next.Reads as next-reads
+use Rattle.ways.proofs.put_asked.Reads as put-asked-reads
+use Rattle.spelling.proofs.put_ix.Reads as put-ix-reads
 
 -- src/lib.rt:78:9
 put-asked-requires : tie.Need-put-asked-requires

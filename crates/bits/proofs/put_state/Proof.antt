@@ -5,7 +5,8 @@ use lib.ListN.{length}
 use Rattle.meaning.specs.Tables.{Tables, stateCount}
 use Rattle.meaning.specs.Hierarchy.{up, depth}
 use Rattle.meaning.specs.Written.{pathBits}
-use Rattle.bits.specs.Sent.{Sent, bitAt, baseOf, laid, Drawn}
+use Rattle.bits.specs.Sent.{Sent, bitAt, laid, Drawn}
+use Rattle.ways.specs.Ways.{baseOf}
 use Rattle.bits.specs.SentLaws.{sent-none, path-step}
 use Rattle.bits.specs.GroupLaws.{path-up}
 use Rattle.bits.proofs.put_state.Statement.{statement}

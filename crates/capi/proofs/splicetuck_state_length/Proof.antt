@@ -7,7 +7,7 @@ use Rattle.capi.proofs.splicetuck_state_length.Reads as reads
 use Rattle.capi.proofs.splicetuck_state_length.Lts as lts
 use Rattle.capi.proofs.refused.Reads as refused-reads
 use Rattle.chart.proofs.check.Reads as check-reads
-use Rattle.lent.proofs.state_length.Reads as state-length-reads
+use Rattle.stateread.proofs.state_length.Reads as state-length-reads
 
 -- src/lib.rt:239:9
 check-requires : tie.Need-check-requires

@@ -1,6 +1,6 @@
 use Rattle.chart.specs.Verdicts.{checkOf, tableChecks, moveChecks, flipFlopCheck, isRefused, passed, halts, goes, first-goes, rest-goes, size-stops, size-goes}
 use Rattle.idle.specs.Leaves.{Sound}
-use Rattle.rules.specs.Falling.{falling}
+use Rattle.tree.specs.Falling.{falling}
 use Rattle.meaning.specs.Rules.{HierarchyRule}
 use Rattle.meaning.specs.RuleLaws.{hierarchy-tells}
 use Rattle.chart.specs.declared.Rule.the-variants as L

@@ -1,6 +1,6 @@
 use Rattle.chart.specs.Verdicts.{literalCheck, fails-at, all-pass}
 use Rattle.tables.specs.Given.{move-count}
-use Rattle.literals.specs.Words.{WordsTo}
+use Rattle.asks.specs.Words.{WordsTo}
 use Rattle.meaning.specs.Check.{literalPasses}
 use Rattle.meaning.specs.Tables.{Tables, moveCount, timerCount}
 use lib.ListN.{length}

@@ -1,5 +1,5 @@
 use Rattle.chart.specs.Verdicts.{overlapCheck, fails-at, all-pass, Worded, words-first}
-use Rattle.rules.specs.Falling.{Falling}
+use Rattle.tree.specs.Falling.{Falling}
 use Rattle.tables.specs.Given.{move-count}
 use Rattle.meaning.specs.Check.{overlapPasses}
 use Rattle.meaning.specs.Tables.{Tables}

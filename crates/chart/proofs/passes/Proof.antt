@@ -1,7 +1,6 @@
 use Rattle.tables.specs.Given.{tablesOf}
 use Rattle.meaning.specs.Tables.{timerCount}
-use Rattle.meaning.specs.Check.{pairPasses}
-use mathlib.Core.Path.{refl, ap, _∙_}
+use mathlib.Core.Path.{refl}
 use borrow.Author.Needs.{needs}
 use Rattle.chart.proofs.passes.Statement.{statement}
 use Rattle.chart.proofs.passes.Tie as tie
@@ -33,11 +32,8 @@ pair-passes-requires c κs = search needs
 enum-told-5 : tie.Need-enum-told-5
 enum-told-5 c = search needs
 
-wide-requires : tie.Need-wide-requires
-wide-requires c κs = search needs
-
-pair-passes-requires-2 : tie.Need-pair-passes-requires-2
-pair-passes-requires-2 c κs = search needs
+output-pair-passes-requires : tie.Need-output-pair-passes-requires
+output-pair-passes-requires c κs = search needs
 
 enum-told-6 : tie.Need-enum-told-6
 enum-told-6 c = search needs
@@ -72,9 +68,9 @@ returns-4 c =
 
 returns-5 : tie.Need-returns-5
 returns-5 c =
-    let a = c .before .before .before .before .before .before .before .before .args in
+    let a = c .before .before .before .before .before .before .before .args in
     let t = tablesOf (a .chart) (a .states .now) (a .moves .now) (a .presets .now) (a .timer-pairs .now) (a .output-pairs .now) in
-    rw (c .before .before .enum-told5 .given .1) (c .pair-passes2 .ensures t refl ∙ ap (λ m. pairPasses t m (a .output-pairs .now) (a .i)) (c .before .wide .ensures))
+    rw (c .before .enum-told5 .given .1) (c .output-pair-passes .ensures t refl refl)
 
 returns-6 : tie.Need-returns-6
 returns-6 c =
@@ -95,8 +91,7 @@ passes-spec =
     enum-told-4
     pair-passes-requires
     enum-told-5
-    wide-requires
-    pair-passes-requires-2
+    output-pair-passes-requires
     enum-told-6
     move-passes-requires
     returns

@@ -8,13 +8,13 @@ use lib.ListN.{length, getD, set, drop, length-set, drop-of-length-le}
 use lib.Seq.{sets}
 use borrow.Author.Needs.{needs, sfits-of}
 use Rattle.columns.specs.Low.{stores-next}
-use Rattle.field.specs.Field.{signedOf}
+use Rattle.ended.specs.Decimals.{signedOf}
 use Rattle.columns.proofs.narrow_signed.Statement.{statement}
 use Rattle.columns.proofs.narrow_signed.Tie as tie
 use Rattle.columns.proofs.narrow_signed.Reads as reads
 use Rattle.columns.proofs.narrow_signed.Lts as lts
 use Rattle.columns.proofs.store_signed.Reads as store-signed-reads
-use Rattle.field.proofs.signed.Reads as signed-reads
+use Rattle.ended.proofs.signed.Reads as signed-reads
 
 abbrev Inv-loop : tie.InvT-loop
 Inv-loop from to₀ i₀ to i = (i ≤ length from) × (length to ≡ length to₀) × (sets to i (map signedOf (drop i from)) ≡ sets to₀ 0 (map signedOf from))

@@ -11,7 +11,7 @@ use Rattle.controller.proofs.times_of.Tie as tie
 use Rattle.controller.proofs.times_of.Reads as reads
 use Rattle.controller.proofs.times_of.Lts as lts
 use Rattle.controller.proofs.time_of.Reads as time-of-reads
-use Rattle.instruction.proofs.word_due.Reads as word-due-reads
+use Rattle.due.proofs.word_due.Reads as word-due-reads
 
 abbrev Inv-loop : tie.InvT-loop
 Inv-loop words time₀ times₀ i₀ time times i =

@@ -6,14 +6,14 @@ use Rattle.decode.proofs.decode.Reads as reads
 use Rattle.decode.proofs.decode.Lts as lts
 use Rattle.decode.proofs.unpack.Reads as unpack-reads
 
--- src/lib.rt:196:5
+-- src/lib.rt:87:5
 unpack-requires : tie.Need-unpack-requires
 unpack-requires c κs = search needs
 
--- src/lib.rt:193:1
+-- src/lib.rt:84:1
 returns : tie.Need-returns
 unfolding decoded
-returns c = rw (c .unpack .ensures)
+returns c = c .unpack .ensures
 
 pub decode-spec : {M : Type 1} → statement M
 decode-spec = tie.close (tie.spec unpack-requires returns)

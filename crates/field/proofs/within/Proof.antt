@@ -2,7 +2,9 @@ use borrow.Author.Needs.{needs}
 use Rattle.field.proofs.within.Statement.{statement}
 use Rattle.field.proofs.within.Tie as tie
 use Rattle.field.specs.Field.{phaseAfter}
-use mathlib.Core.Path.{sym, _∙_}
+use mathlib.Core.Path.{_≡_, sym, _∙_}
+use mathlib.Core.Bool.{true}
+use lib.Dec.{eqb}
 use borrow.Author.Tests.{eq-eqb, ne-eqb}
 
 enum-told : tie.Need-enum-told
@@ -32,7 +34,7 @@ enum-known-phase c = search needs
 
 returns-2 : tie.Need-returns-2
 unfolding phaseAfter
-returns-2 c = rw (c .before .before .phase .given .1) (simp (eq-eqb _ _ (c .if2 .taken)))
+returns-2 c = let e : eqb (c .before .before .before .before .args .b) 48 ≡ true = eq-eqb (c .before .before .before .before .args .b) 48 (c .if2 .taken) in rw (c .before .before .phase .given .1, e)
 
 grow-requires-2 : tie.Need-grow-requires-2
 grow-requires-2 c κs = search needs

@@ -4,7 +4,8 @@ use Prim.Native.Nat.{_*_, _≤_, _<_}
 use native.Mathlib.Omega.{arith}
 use lib.ListN.{length, length-take}
 use Rattle.field.specs.Field.{top}
-use Rattle.file.specs.ReadLaws.{empty-part, count-few, read-refused, read-cramped, read-passed}
+use Rattle.format.specs.Measured.{empty-part}
+use Rattle.file.specs.ReadLaws.{count-few, read-refused, read-cramped, read-passed}
 use borrow.Author.Needs.{needs}
 use Rattle.file.proofs.read_records.Statement.{statement}
 use Rattle.file.proofs.read_records.Tie as tie
@@ -40,9 +41,8 @@ same-length c = search needs
 returns : tie.Need-returns
 returns c = let a = c .before .before .before .before .before .before .before .before .before .before .before .args in
     let q = rw (c .before .before .before .measured .given .1) at (c .before .before .before .before .before .before .before .pass .ensures) in
-    let r = c .before .row-for .ensures in
-    let t : length (a .out .now) < c .before .before .before .measured .given .0 .0 * c .before .row-for .result = omega (arith, c .if1 .taken, same-length c) in
-    rw (empty-part _ _ (same-length c), r) (read-cramped (a .file) (a .bytes .now) _ _ _ (a .out .now) q (rw r at t))
+    let w = c .before .before .before .before .before .before .before .pass .last .1 .1 .0 in
+    read-cramped (a .file) (a .bytes .now) _ _ (c .before .before .before .measured .given .0 .0) (c .before .row-for .result) (a .out .now) (w ++ a .out .now) q (c .before .row-for .ensures) (omega (arith, c .if1 .taken, same-length c)) (empty-part w (a .out .now) (same-length c))
 
 pass-requires-2 : tie.Need-pass-requires-2
 pass-requires-2 c κs = search needs
@@ -68,7 +68,8 @@ same-length-3 c = search needs
 returns-3 : tie.Need-returns-3
 returns-3 c = let a = c .before .before .before .before .before .before .before .before .before .args in
     let q = rw (c .before .measured2 .given .1) at (c .before .before .before .before .before .pass .ensures) in
-    rw (empty-part _ _ (same-length-3 c)) (read-refused (a .file) (a .bytes .now) _ _ _ (a .out .now) q)
+    let w = c .before .before .before .before .before .pass .last .1 .1 .0 in
+    read-refused (a .file) (a .bytes .now) _ _ _ (a .out .now) (w ++ a .out .now) q (empty-part w (a .out .now) (same-length-3 c))
 
 pub read-records-spec : {M : Type 1} → statement M
 read-records-spec =

@@ -1,5 +1,5 @@
 use Rattle.il.specs.Advance.{Goes, advance-end, advance-due, advance-on, advance-goes}
-use Rattle.instruction.specs.Effect.{due}
+use Rattle.due.specs.Due.{due}
 use Rattle.il.specs.Run.{Reached, advanced}
 use Rattle.format.specs.Decode.{decoded}
 use lib.ListN.{length, drop, getD}
@@ -12,7 +12,7 @@ use Rattle.il.proofs.advance.Tie as tie
 use Rattle.il.proofs.advance.Reads as reads
 use Rattle.il.proofs.advance.Lts as lts
 use Rattle.instruction.proofs.run_word.Reads as run-word-reads
-use Rattle.instruction.proofs.word_due.Reads as word-due-reads
+use Rattle.due.proofs.word_due.Reads as word-due-reads
 
 abbrev Inv-loop : tie.InvT-loop
 Inv-loop words ff₀ x count at₀ s₀ ff at s =

@@ -1,4 +1,4 @@
-use Rattle.instruction.specs.Effect.{withBit}
+use Rattle.values.specs.Value.{withBit}
 use Rattle.il.specs.Run.{resumed}
 use borrow.Author.Tests.{le-ltb}
 use native.Mathlib.Omega.{arith}
@@ -7,7 +7,7 @@ use Rattle.il.proofs.resume.Statement.{statement}
 use Rattle.il.proofs.resume.Tie as tie
 use Rattle.il.proofs.resume.Reads as reads
 use Rattle.il.proofs.resume.Lts as lts
-use Rattle.instruction.proofs.with_bit.Reads as with-bit-reads
+use Rattle.values.proofs.with_bit.Reads as with-bit-reads
 
 -- src/lib.rt:470:29
 cast-with-bit : tie.Need-cast-with-bit

@@ -10,7 +10,7 @@ use Rattle.instruction.proofs.Running.load.Reads as load-reads
 use Rattle.instruction.proofs.Running.load_time.Reads as load-time-reads
 use Rattle.instruction.proofs.Running.put_aside.Reads as put-aside-reads
 use Rattle.instruction.proofs.Running.store.Reads as store-reads
-use Rattle.instruction.proofs.value.Reads as value-reads
+use Rattle.values.proofs.value.Reads as value-reads
 
 -- src/lib.rt:199:22
 enum-known-i : tie.Need-enum-known-i

@@ -4,7 +4,7 @@ use Rattle.instruction.proofs.run_one.Statement.{statement}
 use Rattle.instruction.proofs.run_one.Tie as tie
 use Rattle.instruction.proofs.run_one.Reads as reads
 use Rattle.instruction.proofs.run_one.Lts as lts
-use Rattle.instruction.proofs.change.Reads as change-reads
+use Rattle.stores.proofs.change.Reads as change-reads
 use Rattle.instruction.proofs.evaluate.Reads as evaluate-reads
 
 -- src/lib.rt:309:24

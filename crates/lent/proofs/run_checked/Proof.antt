@@ -2,7 +2,7 @@ use borrow.Author.Needs.{needs}
 use native.Mathlib.Omega.{arith}
 use lib.ListN.{replicate}
 use Rattle.tables.specs.Given.{state-count, move-count}
-use Rattle.lent.specs.SliceLaws.{zero-room}
+use Rattle.lent.specs.RunLaws.{zero-room}
 use Rattle.lent.proofs.run_checked.Statement.{statement}
 use Rattle.lent.proofs.run_checked.Tie as tie
 

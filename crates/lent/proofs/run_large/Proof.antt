@@ -1,6 +1,6 @@
 use borrow.Author.Needs.{needs}
 use lib.ListN.{replicate}
-use Rattle.lent.specs.SliceLaws.{zero-room}
+use Rattle.lent.specs.RunLaws.{zero-room}
 use Rattle.lent.proofs.run_large.Statement.{statement}
 use Rattle.lent.proofs.run_large.Tie as tie
 

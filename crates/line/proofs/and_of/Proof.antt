@@ -5,7 +5,7 @@ use Rattle.line.proofs.and_of.Statement.{statement}
 use Rattle.line.proofs.and_of.Tie as tie
 use Rattle.line.proofs.and_of.Reads as reads
 use Rattle.line.proofs.and_of.Lts as lts
-use Rattle.line.proofs.test_after.Reads as test-after-reads
+use Rattle.operands.proofs.test_after.Reads as test-after-reads
 
 -- src/lib.rt:174:9
 returns : tie.Need-returns

@@ -5,9 +5,9 @@ use Rattle.line.proofs.load_of.Statement.{statement}
 use Rattle.line.proofs.load_of.Tie as tie
 use Rattle.line.proofs.load_of.Reads as reads
 use Rattle.line.proofs.load_of.Lts as lts
-use Rattle.line.proofs.numbered.Reads as numbered-reads
-use Rattle.line.proofs.same.Reads as same-reads
-use Rattle.line.proofs.test_after.Reads as test-after-reads
+use Rattle.decimals.proofs.numbered.Reads as numbered-reads
+use Rattle.decimals.proofs.same.Reads as same-reads
+use Rattle.operands.proofs.test_after.Reads as test-after-reads
 
 -- src/lib.rt:194:9
 returns : tie.Need-returns

@@ -5,8 +5,8 @@ use Rattle.line.proofs.other_of.Statement.{statement}
 use Rattle.line.proofs.other_of.Tie as tie
 use Rattle.line.proofs.other_of.Reads as reads
 use Rattle.line.proofs.other_of.Lts as lts
-use Rattle.line.proofs.numbered.Reads as numbered-reads
-use Rattle.line.proofs.same.Reads as same-reads
+use Rattle.decimals.proofs.numbered.Reads as numbered-reads
+use Rattle.decimals.proofs.same.Reads as same-reads
 
 -- src/lib.rt:222:16
 slice-aggregate-same : tie.Need-slice-aggregate-same

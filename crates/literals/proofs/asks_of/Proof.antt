@@ -14,8 +14,8 @@ use Rattle.meaning.specs.RowsLaws.{and-l, every-intro, every-no}
 use Rattle.meaning.specs.Tables.{Tables, timerCount, literal}
 use Rattle.meaning.specs.Literals.{kindOf, wanted}
 use Rattle.meaning.specs.Check.{withinCounts, placePasses, literalPasses}
-use Rattle.literals.specs.Words.{Asked}
-use Rattle.literals.specs.WordsLaws.{none-asked, one-more}
+use Rattle.asks.specs.Words.{Asked}
+use Rattle.asks.specs.WordsLaws.{none-asked, one-more}
 use Rattle.literals.proofs.asks_of.Statement.{statement}
 use Rattle.literals.proofs.asks_of.Tie as tie
 

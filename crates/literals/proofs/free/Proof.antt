@@ -1,5 +1,5 @@
 use native.Mathlib.Omega.{arith}
-use mathlib.Core.Path.{_∙_, ap, sym}
+use mathlib.Core.Path.{ap}
 use mathlib.Core.Bool.{not}
 use Rattle.meaning.specs.Literals.{inputOn}
 use Rattle.pairing.specs.WordsLaws.{or-on}

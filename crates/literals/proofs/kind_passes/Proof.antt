@@ -1,12 +1,9 @@
 use native.Mathlib.Omega.{arith}
 use mathlib.Core.Path.{sym, _∙_}
-use Rattle.literals.specs.WordsLaws.{unused-passes, unknown-fails, input-size, input-passes, input-fails, timer-sized, timer-passes, timer-fails}
+use Rattle.literals.specs.PlaceLaws.{unused-passes, unknown-fails, input-size, input-passes, input-fails, timer-sized, timer-passes, timer-fails}
 use borrow.Author.Needs.{needs}
 use Rattle.literals.proofs.kind_passes.Statement.{statement}
 use Rattle.literals.proofs.kind_passes.Tie as tie
-use Rattle.literals.proofs.kind_passes.Reads as reads
-use Rattle.literals.proofs.kind_passes.Lts as lts
-use Rattle.literals.proofs.free.Reads as free-reads
 
 enum-told : tie.Need-enum-told
 enum-told c = search needs

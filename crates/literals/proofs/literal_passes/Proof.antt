@@ -1,11 +1,7 @@
-use Rattle.literals.specs.WordsLaws.{words-more}
+use Rattle.asks.specs.WordsLaws.{words-more}
 use borrow.Author.Needs.{needs}
 use Rattle.literals.proofs.literal_passes.Statement.{statement}
 use Rattle.literals.proofs.literal_passes.Tie as tie
-use Rattle.literals.proofs.literal_passes.Reads as reads
-use Rattle.literals.proofs.literal_passes.Lts as lts
-use Rattle.literals.proofs.asks_of.Reads as asks-of-reads
-use Rattle.literals.proofs.put_words.Reads as put-words-reads
 
 asks-of-requires : tie.Need-asks-of-requires
 asks-of-requires c κs = search needs

@@ -11,7 +11,8 @@ use Rattle.meaning.specs.Machine.{activeLeaf, step}
 use Rattle.meaning.specs.MachineLaws.{Sound, valid-sound, step-valid}
 use Rattle.paths.specs.FlagsLaws.{leaf-known}
 use Rattle.paths.specs.WordsLaws.{and-bit}
-use Rattle.machine.specs.Held.{held, grown}
+use Rattle.machine.specs.Held.{held}
+use Rattle.timers.specs.Times.{grown}
 use Rattle.machine.specs.StepLaws.{chosen-on, step-held}
 use borrow.Author.Needs.{needs}
 use Rattle.machine.proofs.scan.Statement.{statement}

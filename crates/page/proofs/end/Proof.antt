@@ -8,7 +8,7 @@ use Rattle.page.proofs.end.Lts as lts
 use Rattle.page.proofs.gone_on.Reads as gone-on-reads
 use Rattle.page.proofs.is_running.Reads as is-running-reads
 use Rattle.page.proofs.turned.Reads as turned-reads
-use Rattle.phases.proofs.may_end.Reads as may-end-reads
+use Rattle.phase.proofs.may_end.Reads as may-end-reads
 
 -- src/lib.rt:131:8
 may-end-requires : tie.Need-may-end-requires

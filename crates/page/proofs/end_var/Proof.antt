@@ -9,7 +9,7 @@ use Rattle.page.proofs.end_var.Lts as lts
 use Rattle.page.proofs.gone_on.Reads as gone-on-reads
 use Rattle.page.proofs.is_on.Reads as is-on-reads
 use Rattle.page.proofs.turned.Reads as turned-reads
-use Rattle.phases.proofs.begin.Reads as begin-reads
+use Rattle.phase.proofs.begin.Reads as begin-reads
 
 -- src/lib.rt:102:9
 turned-requires : tie.Need-turned-requires

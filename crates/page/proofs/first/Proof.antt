@@ -4,7 +4,7 @@ use Rattle.page.proofs.first.Statement.{statement}
 use Rattle.page.proofs.first.Tie as tie
 use Rattle.page.proofs.first.Reads as reads
 use Rattle.page.proofs.first.Lts as lts
-use Rattle.phases.proofs.begin.Reads as begin-reads
+use Rattle.phase.proofs.begin.Reads as begin-reads
 
 -- src/lib.rt:141:9
 begin-requires : tie.Need-begin-requires

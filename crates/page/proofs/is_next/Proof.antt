@@ -1,8 +1,10 @@
-use Prim.Native.Nat.{suc}
-use native.Mathlib.Numerals.{add-one}
+use mathlib.Core.Path.{_≡_, ap, _∙_}
+use Prim.Native.Nat.{suc, _+_}
 use native.Mathlib.Omega.{arith}
-use mathlib.Core.Bool.{and-true, and-false}
-use borrow.Author.Tests.{le-leb, lt-leb, ne-eqb}
+use lib.Dec.{eqb}
+use mathlib.Core.Bool.{and-false}
+use borrow.Author.Tests.{lt-leb, ne-eqb}
+use Rattle.page.proofs.Laws.{next-block}
 use borrow.Author.Needs.{needs}
 use Rattle.page.proofs.is_next.Statement.{statement}
 use Rattle.page.proofs.is_next.Tie as tie
@@ -25,7 +27,8 @@ add-result c = search needs
 -- src/lib.rt:69:1
 returns-3 : tie.Need-returns-3
 returns-3 c = let a = c .before .before .before .before .args in
-    rw (le-leb (a .n) 32 (omega arith), and-true, add-one)
+    let e : a .p .blocks + 1 ≡ suc (a .p .blocks) = omega arith in
+    ap (eqb (a .n)) e ∙ next-block (a .n) (a .p .blocks) (omega arith)
 
 pub is-next-spec : {M : Type 1} → statement M
 is-next-spec = tie.close (tie.spec returns returns-2 add-result returns-3)

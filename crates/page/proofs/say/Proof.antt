@@ -8,8 +8,8 @@ use Rattle.page.proofs.say.Lts as lts
 use Rattle.page.proofs.gone_on.Reads as gone-on-reads
 use Rattle.page.proofs.is_running.Reads as is-running-reads
 use Rattle.page.proofs.turned.Reads as turned-reads
-use Rattle.phases.proofs.alive.Reads as alive-reads
-use Rattle.phases.proofs.step.Reads as step-reads
+use Rattle.phase.proofs.alive.Reads as alive-reads
+use Rattle.following.proofs.step.Reads as step-reads
 
 -- src/lib.rt:116:9
 step-requires : tie.Need-step-requires

@@ -7,10 +7,10 @@ use Rattle.phases.proofs.words_pass.Statement.{statement}
 use Rattle.phases.proofs.words_pass.Tie as tie
 use Rattle.phases.proofs.words_pass.Reads as reads
 use Rattle.phases.proofs.words_pass.Lts as lts
-use Rattle.phases.proofs.alive.Reads as alive-reads
-use Rattle.phases.proofs.begin.Reads as begin-reads
-use Rattle.phases.proofs.may_end.Reads as may-end-reads
-use Rattle.phases.proofs.step_near.Reads as step-near-reads
+use Rattle.phase.proofs.alive.Reads as alive-reads
+use Rattle.phase.proofs.begin.Reads as begin-reads
+use Rattle.phase.proofs.may_end.Reads as may-end-reads
+use Rattle.following.proofs.step_near.Reads as step-near-reads
 
 abbrev Inv-loop : tie.InvT-loop
 Inv-loop words s₀ i₀ s i = Took words i s

@@ -5,9 +5,9 @@ use Rattle.printing.proofs.print.Statement.{statement}
 use Rattle.printing.proofs.print.Tie as tie
 use Rattle.printing.proofs.print.Reads as reads
 use Rattle.printing.proofs.print.Lts as lts
-use Rattle.printing.proofs.chart_of.Reads as chart-of-reads
-use Rattle.printing.proofs.count_rows.Reads as count-rows-reads
-use Rattle.printing.proofs.fields_pass.Reads as fields-pass-reads
+use Rattle.files.proofs.chart_of.Reads as chart-of-reads
+use Rattle.files.proofs.count_rows.Reads as count-rows-reads
+use Rattle.files.proofs.fields_pass.Reads as fields-pass-reads
 use Rattle.printing.proofs.print_refusal.Reads as print-refusal-reads
 use Rattle.printing.proofs.print_rows.Reads as print-rows-reads
 

@@ -4,9 +4,10 @@ use native.Mathlib.Omega.{arith}
 use lib.ListN.{take, length-take}
 use lib.Seq.{length-take-le}
 use lib.IntN.{pos}
-use Rattle.field.specs.Field.{signedOf}
+use Rattle.ended.specs.Decimals.{signedOf}
 use Rattle.columns.specs.Low.{low16, low32}
-use Rattle.printing.specs.Print.{rowsOf, least-twice, narrowed-is, scans-part, same-printed}
+use Rattle.files.specs.Told.{rowsOf}
+use Rattle.printing.specs.Print.{least-twice, narrowed-is, scans-part, same-printed}
 use borrow.Author.Needs.{needs}
 use Rattle.printing.proofs.print_rows.Statement.{statement}
 use Rattle.printing.proofs.print_rows.Tie as tie

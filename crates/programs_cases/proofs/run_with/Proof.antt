@@ -58,7 +58,7 @@ use Rattle.programs.proofs.Ran.Laws as N′
 use Rattle.il.specs.Scans.{holding}
 use Rattle.row.specs.Lent.{LentAgain, lends-again, comes-back}
 use Rattle.programs.specs.Runs.{ProgramRan}
-use Rattle.programs_cases.proofs.LocalRow.{R4, vals, ty4, Blocks, far, x-row, rowed, unrowed, apart, together}
+use Rattle.row.specs.LocalRow.{RowOf, vals, row-ty, Blocks, far, x-row, rowed, unrowed, apart, together}
 use Rattle.programs.proofs.run_program as run-program-fn
 use Rattle.programs.proofs.run_program.Symbol as run-program-def
 use Rattle.programs.proofs.run_program.Symbol.{name as #programs·run-program}
@@ -421,7 +421,7 @@ module _ {M : Type 1} (𝓤 : URA M) (H : Heap 𝓤) (A : Atoms 𝓤) (W : Given
       assigns ! (agg ! (and-then ! (load ! (from ! (stop !)) (look ! 18 refl)) (and-then ! (load ! (from ! (fld ! refl (stop !))) (look-in ! 34 (sub ! 1 refl (whole !)))) (no-more !)))) (from ! (stop !)) (init ! 16 refl (tt, (tt, (record { fits = room₆ .0 }, tt)))) $
       rewrite ! 20 (λ (k : ℕ). ‵ (fat fullShare (sliceTy (tyRef erased mut (pointee (T.the-row .written)))) l₁₄ 0 (sliceVal (l₉, 0) k))) (sym short) refl $
       move ! (30 ∷ []) $
-      use1 W (‵ (Blocks row l₉ 0)) (rowed 𝓤 H A W row l₉ is-four) $ use1 W (‵ (Blocks (take count row) l₉ 0) ⊛ ‵ (Blocks (dropped count row) l₉ (far count 0))) (apart 𝓤 H A W count row l₉ 0) $ split ! $
+      use1 W (‵ (Blocks row l₉ 0)) (rowed 𝓤 H A W 4 row l₉ is-four) $ use1 W (‵ (Blocks (take count row) l₉ 0) ⊛ ‵ (Blocks (dropped count row) l₉ (far count 0))) (apart 𝓤 H A W count row l₉ 0) $ split ! $
       lft-new ! tt (λ ν.
       move ! (1 ∷ []) $
       use1 W (later (some (λ (δ : GName). ‵ (MutSlice (named 2) (ν ∷ []) T.the-row .own (x-row l₉ δ (take count row)) (sliceVal (l₉, 0) (length (take count row)) ∷ [])) ⊛ ‵ (flent (ν ∷ []) (Held T.the-row (length (take count row)) l₉ 0 δ))))) (lends-slice 𝓤 H A W T.the-row (named 2) (ν ∷ []) (take count row) l₉ 0 roomy) $ await ! tt $ pick ! (λ δ. split ! $
@@ -474,7 +474,7 @@ module _ {M : Type 1} (𝓤 : URA M) (H : Heap 𝓤) (A : Atoms 𝓤) (W : Given
       rewrite ! 0 (λ (k : ℕ). ‵ (Blocks (dropped count row) l₉ (far k 0))) (sym ((e₁ .1 .1 .1 .0) ∙ short)) refl $
       move ! (1 ∷ 0 ∷ []) $
       use2 W (‵ (Blocks (z₁₃ ++ dropped count row) l₉ 0)) (together 𝓤 H A W z₁₃ (dropped count row) l₉ 0) $
-      use1 W (given (Is R4 (z₁₃ ++ dropped count row) (vals (z₁₃ ++ dropped count row))) (‵ (fat fullShare ty4 l₉ 0 (only (vals (z₁₃ ++ dropped count row)))))) (unrowed 𝓤 H A W (z₁₃ ++ dropped count row) l₉ (four-again z₁₃ (e₁ .1 .1 .1 .0))) $ learn ! (λ isz.
+      use1 W (given (Is (RowOf 4) (z₁₃ ++ dropped count row) (vals (z₁₃ ++ dropped count row))) (‵ (fat fullShare (row-ty 4) l₉ 0 (only (vals (z₁₃ ++ dropped count row)))))) (unrowed 𝓤 H A W 4 (z₁₃ ++ dropped count row) l₉ (four-again z₁₃ (e₁ .1 .1 .1 .0))) $ learn ! (λ isz.
       move ! (8 ∷ 6 ∷ 3 ∷ 4 ∷ 7 ∷ 5 ∷ 1 ∷ 2 ∷ 9 ∷ 10 ∷ []) $
       assigns ! (addr ! (from ! (fld ! refl (hop ! (look-in ! 32 (sub ! 0 refl (whole !))) (stop !))))) (from ! (stop !)) (init ! 13 refl (tt, tt)) $
       assigns ! (agg ! (and-then ! (load ! (from ! (stop !)) (look ! 13 refl)) (and-then ! (load ! (from ! (fld ! refl (stop !))) (look-in ! 32 (sub ! 1 refl (whole !)))) (no-more !)))) (from ! (stop !)) (init ! 11 refl (tt, (tt, (record { fits = room₇ .0 }, tt)))) $

@@ -58,7 +58,7 @@ use Rattle.programs.proofs.Scanned.Laws as O′
 use Rattle.il.specs.Scans.{holding}
 use Rattle.row.specs.Lent.{LentAgain, lends-again, comes-back}
 use Rattle.programs.specs.Runs.{ProgramScanned}
-use Rattle.programs_cases.proofs.LocalRow.{R4, vals, ty4, Blocks, far, x-row, rowed, unrowed, apart, together}
+use Rattle.row.specs.LocalRow.{RowOf, vals, row-ty, Blocks, far, x-row, rowed, unrowed, apart, together}
 use Rattle.programs.proofs.scan_program as scan-program-fn
 use Rattle.programs.proofs.scan_program.Symbol as scan-program-def
 use Rattle.programs.proofs.scan_program.Symbol.{name as #programs·scan-program}
@@ -369,7 +369,7 @@ module _ {M : Type 1} (𝓤 : URA M) (H : Heap 𝓤) (A : Atoms 𝓤) (W : Given
       assigns ! (agg ! (and-then ! (load ! (from ! (stop !)) (look ! 14 refl)) (and-then ! (load ! (from ! (stop !)) (look ! 28 refl)) (no-more !)))) (from ! (stop !)) (init ! 12 refl (tt, (tt, (record { fits = is-count .1 }, tt)))) $
       rewrite ! 12 (λ (k : ℕ). ‵ (fat fullShare (sliceTy (tyRef erased mut (pointee (T.the-row .written)))) l₁₃ 0 (sliceVal (l₈, 0) k))) (sym short) refl $
       move ! (22 ∷ []) $
-      use1 W (‵ (Blocks row l₈ 0)) (rowed 𝓤 H A W row l₈ is-four) $ use1 W (‵ (Blocks (take count row) l₈ 0) ⊛ ‵ (Blocks (dropped count row) l₈ (far count 0))) (apart 𝓤 H A W count row l₈ 0) $ split ! $
+      use1 W (‵ (Blocks row l₈ 0)) (rowed 𝓤 H A W 4 row l₈ is-four) $ use1 W (‵ (Blocks (take count row) l₈ 0) ⊛ ‵ (Blocks (dropped count row) l₈ (far count 0))) (apart 𝓤 H A W count row l₈ 0) $ split ! $
       lft-new ! tt (λ ν.
       move ! (1 ∷ []) $
       use1 W (later (some (λ (δ : GName). ‵ (MutSlice (named 2) (ν ∷ []) T.the-row .own (x-row l₈ δ (take count row)) (sliceVal (l₈, 0) (length (take count row)) ∷ [])) ⊛ ‵ (flent (ν ∷ []) (Held T.the-row (length (take count row)) l₈ 0 δ))))) (lends-slice 𝓤 H A W T.the-row (named 2) (ν ∷ []) (take count row) l₈ 0 roomy) $ await ! tt $ pick ! (λ δ. split ! $
@@ -406,7 +406,7 @@ module _ {M : Type 1} (𝓤 : URA M) (H : Heap 𝓤) (A : Atoms 𝓤) (W : Given
       rewrite ! 0 (λ (k : ℕ). ‵ (Blocks (dropped count row) l₈ (far k 0))) (sym ((e₁ .1 .1 .1) ∙ short)) refl $
       move ! (1 ∷ 0 ∷ []) $
       use2 W (‵ (Blocks (z₁₃ ++ dropped count row) l₈ 0)) (together 𝓤 H A W z₁₃ (dropped count row) l₈ 0) $
-      use1 W (given (Is R4 (z₁₃ ++ dropped count row) (vals (z₁₃ ++ dropped count row))) (‵ (fat fullShare ty4 l₈ 0 (only (vals (z₁₃ ++ dropped count row)))))) (unrowed 𝓤 H A W (z₁₃ ++ dropped count row) l₈ (four-again z₁₃ (e₁ .1 .1 .1))) $ learn ! (λ isz.
+      use1 W (given (Is (RowOf 4) (z₁₃ ++ dropped count row) (vals (z₁₃ ++ dropped count row))) (‵ (fat fullShare (row-ty 4) l₈ 0 (only (vals (z₁₃ ++ dropped count row)))))) (unrowed 𝓤 H A W 4 (z₁₃ ++ dropped count row) l₈ (four-again z₁₃ (e₁ .1 .1 .1))) $ learn ! (λ isz.
       move ! (4 ∷ 3 ∷ 1 ∷ 2 ∷ 5 ∷ 6 ∷ []) $
       assigns ! (addr ! (from ! (fld ! refl (hop ! (look-in ! 24 (sub ! 0 refl (whole !))) (stop !))))) (from ! (stop !)) (init ! 9 refl (tt, tt)) $
       assigns ! (agg ! (and-then ! (load ! (from ! (stop !)) (look ! 9 refl)) (and-then ! (load ! (from ! (fld ! refl (stop !))) (look-in ! 24 (sub ! 1 refl (whole !)))) (no-more !)))) (from ! (stop !)) (init ! 7 refl (tt, (tt, (record { fits = room₆ .0 }, tt)))) $

@@ -6,7 +6,7 @@ use Rattle.records.specs.Automaton.{fieldEnd, fieldEmits, taken, shown}
 use Rattle.meaning.specs.RowsLaws.{and-r}
 use Rattle.records.specs.StepLaws.{return-emits}
 use lib.Dec.{eqb}
-use Rattle.field.specs.Field.{returned}
+use Rattle.ended.specs.Decimals.{returned}
 
 ends-return-requires : tie.Need-ends-return-requires
 ends-return-requires c κs = search needs

@@ -8,7 +8,7 @@ use lib.ListN.{length}
 use Rattle.field.specs.Field.{top}
 use borrow.Author.Tests.{not-false}
 use Rattle.records.specs.Bare.{Went}
-use Rattle.records.specs.BareLaws.{turn-none, turn-then, turn-field}
+use Rattle.records.specs.BareLaws.{bare-way, end-closes, turn-none, turn-then, turn-field}
 
 abbrev Inv-loop : tie.InvT-loop
 Inv-loop bytes from out₀ s₀ i₀ out s i = Went s₀ bytes out₀ from (record { next = i; reader = s }) out
@@ -44,7 +44,7 @@ store-requires : tie.Need-store-requires Inv-loop μ-loop
 store-requires c κs = search needs
 
 shared-slice-read-pass : tie.Need-shared-slice-read-pass Inv-loop μ-loop
-shared-slice-read-pass c = c .before .before .before .before .before .before .field-end .ensures (c .before .before .before .before .before .if2 .left) .1
+shared-slice-read-pass c = end-closes _ _ _ _ _ (c .before .before .before .before .before .if2 .left) (c .before .before .before .before .before .before .field-end .ensures) .1
 
 one-more-requires : tie.Need-one-more-requires Inv-loop μ-loop
 one-more-requires c κs = search needs
@@ -53,18 +53,18 @@ pass-requires : tie.Need-pass-requires Inv-loop μ-loop
 pass-requires c κs = search needs
 
 add-i : tie.Need-add-i Inv-loop μ-loop
-add-i c = (let h = c .before .before .before .before .before .before .before .before .field-end .ensures (c .before .before .before .before .before .before .before .if2 .left) in omega arith)
+add-i c = (let h = end-closes _ _ _ _ _ (c .before .before .before .before .before .before .before .if2 .left) (c .before .before .before .before .before .before .before .before .field-end .ensures) in omega arith)
 
 loop-less : tie.Need-loop-less Inv-loop μ-loop
-loop-less c = (let h = c .before .before .before .before .before .before .before .before .field-end .ensures (c .before .before .before .before .before .before .before .if2 .left) in omega arith)
+loop-less c = (let h = end-closes _ _ _ _ _ (c .before .before .before .before .before .before .before .if2 .left) (c .before .before .before .before .before .before .before .before .field-end .ensures) in omega arith)
 
 loop-again : tie.Need-loop-again Inv-loop μ-loop
 loop-again c = (let k = c .before .before .before .before .before .before .before .before .before .before .before .before .before in
     let bytes = k .before .before .before .args .bytes .now in
-    let h = c .before .before .before .before .before .before .before .before .field-end .ensures (c .before .before .before .before .before .before .before .if2 .left) in
+    let h = end-closes _ _ _ _ _ (c .before .before .before .before .before .before .before .if2 .left) (c .before .before .before .before .before .before .before .before .field-end .ensures) in
     let r = sym (c .before .before .before .before .before .before .before .before .before .before .before .is-ready .ensures) ∙ not-false _ (c .before .before .before .before .before .before .before .before .before .before .if1 .left) in
     let l : length (k .loop .out) ≤ top = search needs in
-    let t = turn-field (k .loop .s) bytes (k .loop .out) (k .loop .i) (c .before .before .before .before .before .before .before .before .before .bare .result) l r (c .before .before .before .before .before .before .before .before .before .bare .ensures (h .0) r) (c .before .before .before .before .before .before .before .before .field-end .result) (h .1) (h .2) in
+    let t = turn-field (k .loop .s) bytes (k .loop .out) (k .loop .i) (c .before .before .before .before .before .before .before .before .before .bare .result) l r (bare-way (k .loop .s) bytes (k .loop .i) r _ (c .before .before .before .before .before .before .before .before .before .bare .ensures) (h .0)) (c .before .before .before .before .before .before .before .before .field-end .result) (h .1) (h .2) in
     record { on = omega arith; turn = rw (c .pass .ensures, c .before .one-more .ensures, c .before .before .before .before .before .store .ensures) (turn-then (k .loop .inv .turn) t) })
 
 same-length-3 : tie.Need-same-length-3 Inv-loop μ-loop

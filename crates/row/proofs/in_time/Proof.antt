@@ -50,9 +50,10 @@ use Rattle.meaning.proofs.Block as T
 use Rattle.meaning.proofs.Block.Laws as T′
 use mathlib.Core.Bool.{_&&_}
 use Rattle.controller.specs.Sizes.{rungsIn, noRungs}
-use Rattle.row.specs.Row.{inItsTime, inTime}
+use Rattle.block.specs.Called.{inItsTime}
+use Rattle.row.specs.Row.{inTime}
 use Rattle.row.specs.RowLaws.{time-on, time-end}
-use Rattle.row.proofs.Body.{rest-of}
+use Rattle.row.specs.Body.{rest-of}
 use Rattle.controller.proofs.times_of as times-of-fn
 use Rattle.controller.proofs.times_of.Symbol as times-of-def
 use Rattle.controller.proofs.times_of.Symbol.{name as #controller·times-of}
@@ -61,10 +62,10 @@ use Rattle.row.proofs.at as at-fn
 use Rattle.row.proofs.at.Symbol as at-def
 use Rattle.row.proofs.at.Symbol.{name as #row·at}
 use Rattle.row.proofs.at.Met as at-thm
-use Rattle.row.proofs.also_in_time as also-in-time-fn
-use Rattle.row.proofs.also_in_time.Symbol as also-in-time-def
-use Rattle.row.proofs.also_in_time.Symbol.{name as #row·also-in-time}
-use Rattle.row.proofs.also_in_time.Met as also-in-time-thm
+use Rattle.block.proofs.also_in_time as also-in-time-fn
+use Rattle.block.proofs.also_in_time.Symbol as also-in-time-def
+use Rattle.block.proofs.also_in_time.Symbol.{name as #block·also-in-time}
+use Rattle.block.proofs.also_in_time.Met as also-in-time-thm
 use Rattle.row.proofs.in_time.Key.{name as #row·in-time}
 use Rattle.row.proofs.in_time as f
 use Rattle.row.proofs.in_time.Statement as stated
@@ -283,7 +284,7 @@ module _ {M : Type 1} (𝓤 : URA M) (H : Heap 𝓤) (A : Atoms 𝓤) (W : Given
   fits : (x : Place) → x .0 .0 < 2 ^ 64
   fits x = omega (arith, x .1 .0, room₀ .0)
 
-  module _ (𝓣 : Tables 𝓤 H) (known-times-of : Triple 𝓤 (𝓣 .C #controller·times-of) (The-times-of 𝓤 H A mem run)) (known-at : Triple 𝓤 (𝓣 .C #row·at) (The-at 𝓤 H A mem run)) (known-also-in-time : Triple 𝓤 (𝓣 .C #row·also-in-time) (The-also-in-time 𝓤 H A mem run)) (l₀ l₁ l₂ l₃ l₄ l₅ l₆ l₇ l₈ : ℕ) where
+  module _ (𝓣 : Tables 𝓤 H) (known-times-of : Triple 𝓤 (𝓣 .C #controller·times-of) (The-times-of 𝓤 H A mem run)) (known-at : Triple 𝓤 (𝓣 .C #row·at) (The-at 𝓤 H A mem run)) (known-also-in-time : Triple 𝓤 (𝓣 .C #block·also-in-time) (The-also-in-time 𝓤 H A mem run)) (l₀ l₁ l₂ l₃ l₄ l₅ l₆ l₇ l₈ : ℕ) where
     abbrev C : Calls 𝓤 H
     C = 𝓣 .C
 
@@ -390,7 +391,7 @@ module _ {M : Type 1} (𝓤 : URA M) (H : Heap 𝓤) (A : Atoms 𝓤) (W : Given
             → inTime (x .0 .0) (dropped (x .0 .0) bs) times (x .0 .1) ≡ inTime (x .0 .0 + 1) (dropped (x .0 .0 + 1) bs) times s
         turn less h s e f = rw (f, e) (time-on bs times (x .0 .0) (x .0 .1) (less-than less))
 
-  walk : (𝓣 : Tables 𝓤 H) → Triple 𝓤 (𝓣 .C #controller·times-of) (The-times-of 𝓤 H A mem run) → Triple 𝓤 (𝓣 .C #row·at) (The-at 𝓤 H A mem run) → Triple 𝓤 (𝓣 .C #row·also-in-time) (The-also-in-time 𝓤 H A mem run)
+  walk : (𝓣 : Tables 𝓤 H) → Triple 𝓤 (𝓣 .C #controller·times-of) (The-times-of 𝓤 H A mem run) → Triple 𝓤 (𝓣 .C #row·at) (The-at 𝓤 H A mem run) → Triple 𝓤 (𝓣 .C #block·also-in-time) (The-also-in-time 𝓤 H A mem run)
       → ent 𝓤 (onEntry 𝓤 H A f.signature (κ₀, (κ₁, tt)) (q₀, (q₁, tt)) ((x-bs γ₀ bs), ((x-ws γ₁ ws), tt)) (v-bs ∷ [], (v-ws ∷ [], tt))) (WpFn 𝓤 H (𝓣 .C) (𝓣 .Λ) code.function (v-bs ∷ v-ws ∷ []) Post)
   walk 𝓣 known-times-of known-at known-also-in-time =
       qed W ((‵ (flft κ₀ q₀) ⊛ (‵ (flft κ₁ q₁) ⊛ ‵ ftrue)) ∷ ‵ (owns (ShrSlice (named 0) κ₀ T.the-row ∷ ShrSlice (named 1) κ₁ u32 ∷ []) ((x-bs γ₀ bs), ((x-ws γ₁ ws), tt)) (v-bs ∷ [], (v-ws ∷ [], tt))) ∷ []) ∵
@@ -436,7 +437,7 @@ module _ {M : Type 1} (𝓤 : URA M) (H : Heap 𝓤) (A : Atoms 𝓤) (W : Given
       assigns ! (of-opd ! (lit ! tt)) (from ! (stop !)) (init ! 10 refl (tt, record { fits = lit< tt })) $
       first ! $ blocks ! $ loops ! 𝓣 Fewer Fewer-wf (At 𝓣 known-times-of known-at known-also-in-time l₀ l₁ l₂ l₃ l₄ l₅ l₆ l₇ l₈) (turns 𝓣 known-times-of known-at known-also-in-time l₀ l₁ l₂ l₃ l₄ l₅ l₆ l₇ l₈) ((0, true), (omega arith, (refl, subst (λ (u : List ℕ). Is-A u (mach-A u)) (e₁ .1) (subst (Is-A r₁) (told-A r₁ w₁ (e₁ .0)) (e₁ .0)))))))))))))))))
 
-module _ {M : Type 1} (𝓤 : URA M) (H : Heap 𝓤) (A : Atoms 𝓤) (W : Given 𝓤 H A) (mem : Memory → SProp 𝓤) (run : Routine → Fun 𝓤) (𝓣 : Tables 𝓤 H) (known-times-of : Triple 𝓤 (𝓣 .C #controller·times-of) (The-times-of 𝓤 H A mem run)) (known-at : Triple 𝓤 (𝓣 .C #row·at) (The-at 𝓤 H A mem run)) (known-also-in-time : Triple 𝓤 (𝓣 .C #row·also-in-time) (The-also-in-time 𝓤 H A mem run)) where
+module _ {M : Type 1} (𝓤 : URA M) (H : Heap 𝓤) (A : Atoms 𝓤) (W : Given 𝓤 H A) (mem : Memory → SProp 𝓤) (run : Routine → Fun 𝓤) (𝓣 : Tables 𝓤 H) (known-times-of : Triple 𝓤 (𝓣 .C #controller·times-of) (The-times-of 𝓤 H A mem run)) (known-at : Triple 𝓤 (𝓣 .C #row·at) (The-at 𝓤 H A mem run)) (known-also-in-time : Triple 𝓤 (𝓣 .C #block·also-in-time) (The-also-in-time 𝓤 H A mem run)) where
   walks : Walks 𝓤 H A f.ended stayed (WpFn 𝓤 H (𝓣 .C) (𝓣 .Λ) code.function) (f.clauses 𝓤 H A mem run)
   walks = walked 𝓤 H A f.ended stayed (f.clauses 𝓤 H A mem run) (WpFn 𝓤 H (𝓣 .C) (𝓣 .Λ) code.function) (λ κs. (slice-vals, (slice-vals, tt))) (λ κs. (shr-slice-tells (named 0) (κs .0) T.the-row, (shr-slice-tells (named 1) (κs .1 .0) u32, tt)))
       (λ κs qs bounds a g are. via 𝓤 _ (fst∗ 𝓤 _ (emp 𝓤)) (walk 𝓤 H A W mem run (κs .0) (qs .0) (a .0 .ptr .0) (a .0 .ptr .1) (a .0 .name) (a .0 .now) (are .0 .0 .1) (κs .1 .0) (qs .1 .0) (a .1 .0 .ptr .0) (a .1 .0 .ptr .1) (a .1 .0 .name) (a .1 .0 .now) (are .1 .0 .0 .1) 𝓣 known-times-of known-at known-also-in-time))
@@ -452,4 +453,4 @@ in-time-spec 𝓤 H 𝓜 𝓖 𝓡 =
     (meets 𝓤 H (𝓖 .A) (givenOf 𝓤 H 𝓜 𝓖) (𝓜 .mem) (𝓡 .run) (tablesOf 𝓤 H 𝓜 (tables 𝓤 H 𝓜 𝓡 code.env))
     (cited 𝓤 H (The-times-of 𝓤 H (𝓖 .A) (𝓜 .mem) (𝓡 .run)) 𝓜 𝓡 code.env #controller·times-of times-of-def.routine code.calls-controller·times-of (times-of-thm.met 𝓤 H 𝓜 𝓖 𝓡))
     (cited 𝓤 H (The-at 𝓤 H (𝓖 .A) (𝓜 .mem) (𝓡 .run)) 𝓜 𝓡 code.env #row·at at-def.routine code.calls-row·at (at-thm.met 𝓤 H 𝓜 𝓖 𝓡))
-    (cited 𝓤 H (The-also-in-time 𝓤 H (𝓖 .A) (𝓜 .mem) (𝓡 .run)) 𝓜 𝓡 code.env #row·also-in-time also-in-time-def.routine code.calls-row·also-in-time (also-in-time-thm.met 𝓤 H 𝓜 𝓖 𝓡)))
+    (cited 𝓤 H (The-also-in-time 𝓤 H (𝓖 .A) (𝓜 .mem) (𝓡 .run)) 𝓜 𝓡 code.env #block·also-in-time also-in-time-def.routine code.calls-block·also-in-time (also-in-time-thm.met 𝓤 H 𝓜 𝓖 𝓡)))

@@ -46,18 +46,18 @@ use Rattle.meaning.specs.declared.Block.{Block}
 use Rattle.meaning.specs.Scan.{blank}
 use Rattle.meaning.proofs.Block as T
 use Rattle.meaning.proofs.Block.Laws as T′
-use Rattle.instruction.specs.Effect.{withBit}
+use Rattle.values.specs.Value.{withBit}
 use Rattle.row.specs.Row.{qWord}
 use Rattle.row.specs.RowLaws.{q-on, q-end}
-use Rattle.row.proofs.Body.{rest-of}
+use Rattle.row.specs.Body.{rest-of}
 use Rattle.row.proofs.at as at-fn
 use Rattle.row.proofs.at.Symbol as at-def
 use Rattle.row.proofs.at.Symbol.{name as #row·at}
 use Rattle.row.proofs.at.Met as at-thm
-use Rattle.row.proofs.with_q as with-q-fn
-use Rattle.row.proofs.with_q.Symbol as with-q-def
-use Rattle.row.proofs.with_q.Symbol.{name as #row·with-q}
-use Rattle.row.proofs.with_q.Met as with-q-thm
+use Rattle.block.proofs.with_q as with-q-fn
+use Rattle.block.proofs.with_q.Symbol as with-q-def
+use Rattle.block.proofs.with_q.Symbol.{name as #block·with-q}
+use Rattle.block.proofs.with_q.Met as with-q-thm
 use Rattle.row.proofs.q_word.Key.{name as #row·q-word}
 use Rattle.row.proofs.q_word as f
 use Rattle.row.proofs.q_word.Statement as stated
@@ -208,7 +208,7 @@ module _ {M : Type 1} (𝓤 : URA M) (H : Heap 𝓤) (A : Atoms 𝓤) (W : Given
   fits : (x : Place) → x .0 .0 < 2 ^ 64
   fits x = omega (arith, x .1 .0, room₀ .0)
 
-  module _ (𝓣 : Tables 𝓤 H) (known-at : Triple 𝓤 (𝓣 .C #row·at) (The-at 𝓤 H A mem run)) (known-with-q : Triple 𝓤 (𝓣 .C #row·with-q) (The-with-q 𝓤 H A mem run)) (l₀ l₁ l₂ l₃ l₄ l₅ l₆ : ℕ) where
+  module _ (𝓣 : Tables 𝓤 H) (known-at : Triple 𝓤 (𝓣 .C #row·at) (The-at 𝓤 H A mem run)) (known-with-q : Triple 𝓤 (𝓣 .C #block·with-q) (The-with-q 𝓤 H A mem run)) (l₀ l₁ l₂ l₃ l₄ l₅ l₆ : ℕ) where
     abbrev C : Calls 𝓤 H
     C = 𝓣 .C
 
@@ -307,7 +307,7 @@ module _ {M : Type 1} (𝓤 : URA M) (H : Heap 𝓤) (A : Atoms 𝓤) (W : Given
             → qWord (x .0 .0) (dropped (x .0 .0) bs) (x .0 .1) ≡ qWord (x .0 .0 + 1) (dropped (x .0 .0 + 1) bs) s
         turn less h s e f = rw (f, e) (q-on bs (x .0 .0) (x .0 .1) (less-than less))
 
-  walk : (𝓣 : Tables 𝓤 H) → Triple 𝓤 (𝓣 .C #row·at) (The-at 𝓤 H A mem run) → Triple 𝓤 (𝓣 .C #row·with-q) (The-with-q 𝓤 H A mem run)
+  walk : (𝓣 : Tables 𝓤 H) → Triple 𝓤 (𝓣 .C #row·at) (The-at 𝓤 H A mem run) → Triple 𝓤 (𝓣 .C #block·with-q) (The-with-q 𝓤 H A mem run)
       → ent 𝓤 (onEntry 𝓤 H A f.signature (κ₀, tt) (q₀, tt) ((x-bs γ₀ bs), tt) (v-bs ∷ [], tt)) (WpFn 𝓤 H (𝓣 .C) (𝓣 .Λ) code.function (v-bs ∷ []) Post)
   walk 𝓣 known-at known-with-q =
       qed W ((‵ (flft κ₀ q₀) ⊛ ‵ ftrue) ∷ ‵ (owns (ShrSlice (named 0) κ₀ T.the-row ∷ []) ((x-bs γ₀ bs), tt) (v-bs ∷ [], tt)) ∷ []) ∵
@@ -335,7 +335,7 @@ module _ {M : Type 1} (𝓤 : URA M) (H : Heap 𝓤) (A : Atoms 𝓤) (W : Given
       assigns ! (of-opd ! (lit ! tt)) (from ! (stop !)) (init ! 8 refl (tt, record { fits = lit< tt })) $
       first ! $ blocks ! $ loops ! 𝓣 Fewer Fewer-wf (At 𝓣 known-at known-with-q l₀ l₁ l₂ l₃ l₄ l₅ l₆) (turns 𝓣 known-at known-with-q l₀ l₁ l₂ l₃ l₄ l₅ l₆) ((0, 0), (omega arith, ((refl, lit< tt), refl))))))))))
 
-module _ {M : Type 1} (𝓤 : URA M) (H : Heap 𝓤) (A : Atoms 𝓤) (W : Given 𝓤 H A) (mem : Memory → SProp 𝓤) (run : Routine → Fun 𝓤) (𝓣 : Tables 𝓤 H) (known-at : Triple 𝓤 (𝓣 .C #row·at) (The-at 𝓤 H A mem run)) (known-with-q : Triple 𝓤 (𝓣 .C #row·with-q) (The-with-q 𝓤 H A mem run)) where
+module _ {M : Type 1} (𝓤 : URA M) (H : Heap 𝓤) (A : Atoms 𝓤) (W : Given 𝓤 H A) (mem : Memory → SProp 𝓤) (run : Routine → Fun 𝓤) (𝓣 : Tables 𝓤 H) (known-at : Triple 𝓤 (𝓣 .C #row·at) (The-at 𝓤 H A mem run)) (known-with-q : Triple 𝓤 (𝓣 .C #block·with-q) (The-with-q 𝓤 H A mem run)) where
   walks : Walks 𝓤 H A f.ended stayed (WpFn 𝓤 H (𝓣 .C) (𝓣 .Λ) code.function) (f.clauses 𝓤 H A mem run)
   walks = walked 𝓤 H A f.ended stayed (f.clauses 𝓤 H A mem run) (WpFn 𝓤 H (𝓣 .C) (𝓣 .Λ) code.function) (λ κs. (slice-vals, tt)) (λ κs. (shr-slice-tells (named 0) (κs .0) T.the-row, tt))
       (λ κs qs bounds a g are. via 𝓤 _ (fst∗ 𝓤 _ (emp 𝓤)) (walk 𝓤 H A W mem run (κs .0) (qs .0) (a .0 .ptr .0) (a .0 .ptr .1) (a .0 .name) (a .0 .now) (are .0 .0 .1) 𝓣 known-at known-with-q))
@@ -350,4 +350,4 @@ q-word-spec 𝓤 H 𝓜 𝓖 𝓡 =
     (tables 𝓤 H 𝓜 𝓡 code.env .C) (tables 𝓤 H 𝓜 𝓡 code.env .Λ) #row·q-word code.function (code.unfolded 𝓤 H 𝓜 𝓡)
     (meets 𝓤 H (𝓖 .A) (givenOf 𝓤 H 𝓜 𝓖) (𝓜 .mem) (𝓡 .run) (tablesOf 𝓤 H 𝓜 (tables 𝓤 H 𝓜 𝓡 code.env))
     (cited 𝓤 H (The-at 𝓤 H (𝓖 .A) (𝓜 .mem) (𝓡 .run)) 𝓜 𝓡 code.env #row·at at-def.routine code.calls-row·at (at-thm.met 𝓤 H 𝓜 𝓖 𝓡))
-    (cited 𝓤 H (The-with-q 𝓤 H (𝓖 .A) (𝓜 .mem) (𝓡 .run)) 𝓜 𝓡 code.env #row·with-q with-q-def.routine code.calls-row·with-q (with-q-thm.met 𝓤 H 𝓜 𝓖 𝓡)))
+    (cited 𝓤 H (The-with-q 𝓤 H (𝓖 .A) (𝓜 .mem) (𝓡 .run)) 𝓜 𝓡 code.env #block·with-q with-q-def.routine code.calls-block·with-q (with-q-thm.met 𝓤 H 𝓜 𝓖 𝓡)))

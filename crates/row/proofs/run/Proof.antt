@@ -49,11 +49,11 @@ use Rattle.meaning.proofs.Block.Laws as T′
 use Rattle.row.specs.Row.{RowScan, RowRun}
 use Rattle.row.specs.RowLaws.{Ran-on, run-start, run-turn, run-end}
 use Rattle.row.specs.Lent.{LentAgain, lends-again, comes-back}
-use Rattle.row.proofs.Body.{rest-of}
-use Rattle.row.proofs.input as input-fn
-use Rattle.row.proofs.input.Symbol as input-def
-use Rattle.row.proofs.input.Symbol.{name as #row·input}
-use Rattle.row.proofs.input.Met as input-thm
+use Rattle.row.specs.Body.{rest-of}
+use Rattle.il.proofs.input as input-fn
+use Rattle.il.proofs.input.Symbol as input-def
+use Rattle.il.proofs.input.Symbol.{name as #il·input}
+use Rattle.il.proofs.input.Met as input-thm
 use Rattle.row.proofs.scan as scan-fn
 use Rattle.row.proofs.scan.Symbol as scan-def
 use Rattle.row.proofs.scan.Symbol.{name as #row·scan}
@@ -100,14 +100,13 @@ module _ {M : Type 1} (𝓤 : URA M) (H : Heap 𝓤) (A : Atoms 𝓤) (W : Given
   typed-T d w is = LL.lawful T.the-type T′.the-laws 𝓤 H A W .typed d (w ∷ []) is .0
 
   -- ---- `input`
-  module _ (κ₀ : Lft) (q₀ : Share) (r₀ : RefT (List ℕ)) (v₀ : Val) (a₁ : ℕ) (v₁ : Val) (is₁ : Is usize a₁ (v₁ ∷ [])) (need : (a₁) < length (r₀ .now)) where
+  module _ (κ₀ : Lft) (q₀ : Share) (r₀ : RefT (List ℕ)) (v₀ : Val) (a₁ : ℕ) (v₁ : Val) (is₁ : Is usize a₁ (v₁ ∷ [])) where
     abbrev to-input : The-input 𝓤 H A mem run .Ghost
     to-input = (((κ₀, tt), (q₀, tt), tt, (r₀, (a₁, tt)), (v₀ ∷ [], (v₁ ∷ [], tt))), tt)
 
     goes-input : ent 𝓤 (⋆ 𝓤 H A (‵ (flft κ₀ q₀) ∷ ‵ (ShrSlice (named 0) κ₀ u64 .own r₀ (v₀ ∷ [])) ∷ [])) (The-input 𝓤 H A mem run .pre to-input)
     goes-input =
         qed W (‵ (flft κ₀ q₀) ∷ ‵ (ShrSlice (named 0) κ₀ u64 .own r₀ (v₀ ∷ [])) ∷ []) ∵
-        says ! need $
         nothing ! $
         move ! (1 ∷ 0 ∷ []) $
         join ! $
@@ -116,7 +115,7 @@ module _ {M : Type 1} (𝓤 : URA M) (H : Heap 𝓤) (A : Atoms 𝓤) (W : Given
         move ! (2 ∷ 0 ∷ []) $
         fjoin ! $
         move ! (1 ∷ 0 ∷ []) $
-        frame ! $ done !
+        join ! $ frame ! $ done !
 
     abbrev Gave-input : (w : Val) (r : ℕ) → Item 𝓤
     Gave-input w r = given (Is u64 r (w ∷ []) × (r ≡ getD (r₀ .now) (a₁) 0)) (‵ (flft κ₀ q₀))
@@ -343,7 +342,7 @@ module _ {M : Type 1} (𝓤 : URA M) (H : Heap 𝓤) (A : Atoms 𝓤) (W : Given
   fits : (y : Place) → y .0 < 2 ^ 64
   fits y = omega (arith, y .1 .1 .1 .1 .0, room₂ .0)
 
-  module _ (𝓣 : Tables 𝓤 H) (known-input : Triple 𝓤 (𝓣 .C #row·input) (The-input 𝓤 H A mem run)) (known-scan : Triple 𝓤 (𝓣 .C #row·scan) (The-scan 𝓤 H A mem run)) (known-put-word : Triple 𝓤 (𝓣 .C #il·put-word) (The-put-word 𝓤 H A mem run)) (l₀ l₁ l₂ l₃ l₄ l₅ l₆ l₇ l₈ l₉ l₁₀ l₁₁ l₁₂ l₁₃ l₁₄ l₁₅ l₁₆ l₁₇ l₁₈ : ℕ) where
+  module _ (𝓣 : Tables 𝓤 H) (known-input : Triple 𝓤 (𝓣 .C #il·input) (The-input 𝓤 H A mem run)) (known-scan : Triple 𝓤 (𝓣 .C #row·scan) (The-scan 𝓤 H A mem run)) (known-put-word : Triple 𝓤 (𝓣 .C #il·put-word) (The-put-word 𝓤 H A mem run)) (l₀ l₁ l₂ l₃ l₄ l₅ l₆ l₇ l₈ l₉ l₁₀ l₁₁ l₁₂ l₁₃ l₁₄ l₁₅ l₁₆ l₁₇ l₁₈ : ℕ) where
     abbrev C : Calls 𝓤 H
     C = 𝓣 .C
 
@@ -379,9 +378,9 @@ module _ {M : Type 1} (𝓤 : URA M) (H : Heap 𝓤) (A : Atoms 𝓤) (W : Given
         move ! (2 ∷ []) $
         use1 W (‵ Own-xs ⊛ ‵ Own-xs) (shr-slice-copy 𝓤 H A W (named 1) κ₂ u64 .twice (x-xs γ₂ xs) (v-xs ∷ [])) $ split ! $
         move ! (4 ∷ 0 ∷ []) $
-        cut (‵ (flft κ₂ q₂) ∷ ‵ Own-xs ∷ []) (raw (The-input 𝓤 H A mem run .pre (to-input 𝓤 H A W mem run κ₂ q₂ (x-xs γ₂ xs) v-xs (y .0) (vint w64 (y .0)) (refl, fits y) (ltb→lt (y .0) (length xs) less))) ∷ []) _ (goes-input 𝓤 H A W mem run κ₂ q₂ (x-xs γ₂ xs) v-xs (y .0) (vint w64 (y .0)) (refl, fits y) (ltb→lt (y .0) (length xs) less)) $
-        calls-at ! fm (The-input 𝓤 H A mem run) known-input (to-input 𝓤 H A W mem run κ₂ q₂ (x-xs γ₂ xs) v-xs (y .0) (vint w64 (y .0)) (refl, fits y) (ltb→lt (y .0) (length xs) less)) (and-then ! (load ! (from ! (stop !)) (look ! 40 refl)) (and-then ! (load ! (from ! (stop !)) (look ! 32 refl)) (no-more !))) (λ w₁.
-        use1 W (later (some (λ (r : ℕ). Gave-input 𝓤 H A W mem run κ₂ q₂ (x-xs γ₂ xs) v-xs (y .0) (vint w64 (y .0)) (refl, fits y) (ltb→lt (y .0) (length xs) less) w₁ r))) (gives-input 𝓤 H A W mem run κ₂ q₂ (x-xs γ₂ xs) v-xs (y .0) (vint w64 (y .0)) (refl, fits y) (ltb→lt (y .0) (length xs) less) w₁) $ await ! tt $
+        cut (‵ (flft κ₂ q₂) ∷ ‵ Own-xs ∷ []) (raw (The-input 𝓤 H A mem run .pre (to-input 𝓤 H A W mem run κ₂ q₂ (x-xs γ₂ xs) v-xs (y .0) (vint w64 (y .0)) (refl, fits y))) ∷ []) _ (goes-input 𝓤 H A W mem run κ₂ q₂ (x-xs γ₂ xs) v-xs (y .0) (vint w64 (y .0)) (refl, fits y)) $
+        calls-at ! fm (The-input 𝓤 H A mem run) known-input (to-input 𝓤 H A W mem run κ₂ q₂ (x-xs γ₂ xs) v-xs (y .0) (vint w64 (y .0)) (refl, fits y)) (and-then ! (load ! (from ! (stop !)) (look ! 40 refl)) (and-then ! (load ! (from ! (stop !)) (look ! 32 refl)) (no-more !))) (λ w₁.
+        use1 W (later (some (λ (r : ℕ). Gave-input 𝓤 H A W mem run κ₂ q₂ (x-xs γ₂ xs) v-xs (y .0) (vint w64 (y .0)) (refl, fits y) w₁ r))) (gives-input 𝓤 H A W mem run κ₂ q₂ (x-xs γ₂ xs) v-xs (y .0) (vint w64 (y .0)) (refl, fits y) w₁) $ await ! tt $
         pick ! (λ r₁.
         learn ! (λ e₁.
         land ! (from ! (stop !)) (init ! 30 refl (subst (λ (u : Val). Holds (hasTy (tyInt w64) u) × WT u) (sym (ap only ((e₁ .0) .0))) (tt, record { fits = (e₁ .0) .1 }))) $ rewrite ! 30 (λ (u : Val). ‵ (fat fullShare (tyInt w64) l₈ 0 u)) (ap only ((e₁ .0) .0)) refl $
@@ -531,7 +530,7 @@ module _ {M : Type 1} (𝓤 : URA M) (H : Heap 𝓤) (A : Atoms 𝓤) (W : Given
         nearer : Holds (ltb (y .0) (length xs)) → length xs - (y .0 + 1) < length xs - y .0
         nearer less = omega (arith, less-than less)
 
-  walk : (𝓣 : Tables 𝓤 H) → Triple 𝓤 (𝓣 .C #row·input) (The-input 𝓤 H A mem run) → Triple 𝓤 (𝓣 .C #row·scan) (The-scan 𝓤 H A mem run) → Triple 𝓤 (𝓣 .C #il·put-word) (The-put-word 𝓤 H A mem run)
+  walk : (𝓣 : Tables 𝓤 H) → Triple 𝓤 (𝓣 .C #il·input) (The-input 𝓤 H A mem run) → Triple 𝓤 (𝓣 .C #row·scan) (The-scan 𝓤 H A mem run) → Triple 𝓤 (𝓣 .C #il·put-word) (The-put-word 𝓤 H A mem run)
       → ent 𝓤 (onEntry 𝓤 H A f.signature (κ₀, (κ₂, (κ₃, (κ₄, (κ₅, tt))))) (q₀, (q₂, (q₃, (q₄, (q₅, tt))))) ((x-ws γ₀ ws), (st, ((x-xs γ₂ xs), ((x-os γ₃ os₀), ((x-fs γ₄ fs₀), ((x-bs γ₅ bs₀), tt)))))) (v-ws ∷ [], ((vint w32 st) ∷ [], (v-xs ∷ [], (v-os ∷ [], (v-fs ∷ [], (v-bs ∷ [], tt))))))) (WpFn 𝓤 H (𝓣 .C) (𝓣 .Λ) code.function (v-ws ∷ (vint w32 st) ∷ v-xs ∷ v-os ∷ v-fs ∷ v-bs ∷ []) Post)
   walk 𝓣 known-input known-scan known-put-word =
       qed W ((‵ (flft κ₀ q₀) ⊛ (‵ (flft κ₂ q₂) ⊛ (‵ (flft κ₃ q₃) ⊛ (‵ (flft κ₄ q₄) ⊛ (‵ (flft κ₅ q₅) ⊛ ‵ ftrue))))) ∷ ‵ (owns (ShrSlice (named 0) κ₀ u32 ∷ u32 ∷ ShrSlice (named 1) κ₂ u64 ∷ MutSlice (named 2) κ₃ u64 ∷ MutSlice (named 3) κ₄ u8 ∷ MutSlice (named 4) κ₅ T.the-row ∷ []) ((x-ws γ₀ ws), (st, ((x-xs γ₂ xs), ((x-os γ₃ os₀), ((x-fs γ₄ fs₀), ((x-bs γ₅ bs₀), tt)))))) (v-ws ∷ [], ((vint w32 st) ∷ [], (v-xs ∷ [], (v-os ∷ [], (v-fs ∷ [], (v-bs ∷ [], tt))))))) ∷ []) ∵
@@ -593,7 +592,7 @@ module _ {M : Type 1} (𝓤 : URA M) (H : Heap 𝓤) (A : Atoms 𝓤) (W : Given
       assigns ! (of-opd ! (lit ! tt)) (from ! (stop !)) (init ! 32 refl (tt, record { fits = lit< tt })) $
       first ! $ blocks ! $ loops ! 𝓣 Fewer Fewer-wf (At 𝓣 known-input known-scan known-put-word l₀ l₁ l₂ l₃ l₄ l₅ l₆ l₇ l₈ l₉ l₁₀ l₁₁ l₁₂ l₁₃ l₁₄ l₁₅ l₁₆ l₁₇ l₁₈) (turns 𝓣 known-input known-scan known-put-word l₀ l₁ l₂ l₃ l₄ l₅ l₆ l₇ l₈ l₉ l₁₀ l₁₁ l₁₂ l₁₃ l₁₄ l₁₅ l₁₆ l₁₇ l₁₈) (0, (os₀, (fs₀, (bs₀, (omega arith, (run-start, (refl, (refl, refl)))))))))))))))))))))))))))
 
-module _ {M : Type 1} (𝓤 : URA M) (H : Heap 𝓤) (A : Atoms 𝓤) (W : Given 𝓤 H A) (mem : Memory → SProp 𝓤) (run : Routine → Fun 𝓤) (𝓣 : Tables 𝓤 H) (known-input : Triple 𝓤 (𝓣 .C #row·input) (The-input 𝓤 H A mem run)) (known-scan : Triple 𝓤 (𝓣 .C #row·scan) (The-scan 𝓤 H A mem run)) (known-put-word : Triple 𝓤 (𝓣 .C #il·put-word) (The-put-word 𝓤 H A mem run)) where
+module _ {M : Type 1} (𝓤 : URA M) (H : Heap 𝓤) (A : Atoms 𝓤) (W : Given 𝓤 H A) (mem : Memory → SProp 𝓤) (run : Routine → Fun 𝓤) (𝓣 : Tables 𝓤 H) (known-input : Triple 𝓤 (𝓣 .C #il·input) (The-input 𝓤 H A mem run)) (known-scan : Triple 𝓤 (𝓣 .C #row·scan) (The-scan 𝓤 H A mem run)) (known-put-word : Triple 𝓤 (𝓣 .C #il·put-word) (The-put-word 𝓤 H A mem run)) where
   walks : Walks 𝓤 H A f.ended stayed (WpFn 𝓤 H (𝓣 .C) (𝓣 .Λ) code.function) (f.clauses 𝓤 H A mem run)
   walks = walked 𝓤 H A f.ended stayed (f.clauses 𝓤 H A mem run) (WpFn 𝓤 H (𝓣 .C) (𝓣 .Λ) code.function) (λ κs. (slice-vals, (uint-vals w32, (slice-vals, (slice-vals, (slice-vals, (slice-vals, tt))))))) (λ κs. (shr-slice-tells (named 0) (κs .0) u32, (uint-tells w32, (shr-slice-tells (named 1) (κs .1 .0) u64, (mut-slice-tells (named 2) (κs .1 .1 .0) u64, (mut-slice-tells (named 3) (κs .1 .1 .1 .0) u8, (mut-slice-tells (named 4) (κs .1 .1 .1 .1 .0) T.the-row, tt)))))))
       (λ κs qs bounds a g are. via 𝓤 _ (fst∗ 𝓤 _ (emp 𝓤)) (walk 𝓤 H A W mem run (κs .0) (qs .0) (a .0 .ptr .0) (a .0 .ptr .1) (a .0 .name) (a .0 .now) (are .0 .0 .1) (κs .1 .0) (qs .1 .0) (a .1 .1 .0 .ptr .0) (a .1 .1 .0 .ptr .1) (a .1 .1 .0 .name) (a .1 .1 .0 .now) (are .1 .1 .0 .0 .1) (κs .1 .1 .0) (qs .1 .1 .0) (a .1 .1 .1 .0 .ptr .0) (a .1 .1 .1 .0 .ptr .1) (a .1 .1 .1 .0 .name) (a .1 .1 .1 .0 .now) (are .1 .1 .1 .0 .0 .1) (κs .1 .1 .1 .0) (qs .1 .1 .1 .0) (a .1 .1 .1 .1 .0 .ptr .0) (a .1 .1 .1 .1 .0 .ptr .1) (a .1 .1 .1 .1 .0 .name) (a .1 .1 .1 .1 .0 .now) (are .1 .1 .1 .1 .0 .0 .1) (κs .1 .1 .1 .1 .0) (qs .1 .1 .1 .1 .0) (a .1 .1 .1 .1 .1 .0 .ptr .0) (a .1 .1 .1 .1 .1 .0 .ptr .1) (a .1 .1 .1 .1 .1 .0 .name) (a .1 .1 .1 .1 .1 .0 .now) (are .1 .1 .1 .1 .1 .0 .0 .1) (a .1 .0) (refl, are .1 .0 .1) 𝓣 known-input known-scan known-put-word))
@@ -607,6 +606,6 @@ run-spec 𝓤 H 𝓜 𝓖 𝓡 =
     entered 𝓤 H (tripleOf 𝓤 H (𝓖 .A) f.signature (f.spec 𝓤 H (𝓖 .A) (𝓜 .mem) (𝓡 .run)))
     (tables 𝓤 H 𝓜 𝓡 code.env .C) (tables 𝓤 H 𝓜 𝓡 code.env .Λ) #row·run code.function (code.unfolded 𝓤 H 𝓜 𝓡)
     (meets 𝓤 H (𝓖 .A) (givenOf 𝓤 H 𝓜 𝓖) (𝓜 .mem) (𝓡 .run) (tablesOf 𝓤 H 𝓜 (tables 𝓤 H 𝓜 𝓡 code.env))
-    (cited 𝓤 H (The-input 𝓤 H (𝓖 .A) (𝓜 .mem) (𝓡 .run)) 𝓜 𝓡 code.env #row·input input-def.routine code.calls-row·input (input-thm.met 𝓤 H 𝓜 𝓖 𝓡))
+    (cited 𝓤 H (The-input 𝓤 H (𝓖 .A) (𝓜 .mem) (𝓡 .run)) 𝓜 𝓡 code.env #il·input input-def.routine code.calls-il·input (input-thm.met 𝓤 H 𝓜 𝓖 𝓡))
     (cited 𝓤 H (The-scan 𝓤 H (𝓖 .A) (𝓜 .mem) (𝓡 .run)) 𝓜 𝓡 code.env #row·scan scan-def.routine code.calls-row·scan (scan-thm.met 𝓤 H 𝓜 𝓖 𝓡))
     (cited 𝓤 H (The-put-word 𝓤 H (𝓖 .A) (𝓜 .mem) (𝓡 .run)) 𝓜 𝓡 code.env #il·put-word put-word-def.routine code.calls-il·put-word (put-word-thm.met 𝓤 H 𝓜 𝓖 𝓡)))

@@ -51,12 +51,12 @@ use Rattle.meaning.proofs.Block.Laws as T′
 use Rattle.il.specs.declared.Stop.{Stop}
 use Rattle.il.proofs.Stop as P
 use Rattle.il.proofs.Stop.Laws as P′
-use Rattle.instruction.specs.Effect.{calledWith}
+use Rattle.block.specs.Called.{calledWith}
 use Rattle.il.specs.Run.{advanced, resumed, fresh, Whole, wholeScan}
 use Rattle.il.specs.Advance.{Goes, Turn, turn-last, turn-on}
 use Rattle.row.specs.Row.{qWord, scanOf, RowScan}
 use Rattle.row.specs.Lent.{LentAgain, lends-again, comes-back, SharedOut, shares-out, comes-home}
-use Rattle.row.proofs.Body.{rest-of}
+use Rattle.row.specs.Body.{rest-of}
 use Rattle.row.proofs.q_word as q-word-fn
 use Rattle.row.proofs.q_word.Symbol as q-word-def
 use Rattle.row.proofs.q_word.Symbol.{name as #row·q-word}
@@ -77,10 +77,10 @@ use Rattle.il.proofs.resume as resume-fn
 use Rattle.il.proofs.resume.Symbol as resume-def
 use Rattle.il.proofs.resume.Symbol.{name as #il·resume}
 use Rattle.il.proofs.resume.Met as resume-thm
-use Rattle.row.proofs.outputs_of as outputs-of-fn
-use Rattle.row.proofs.outputs_of.Symbol as outputs-of-def
-use Rattle.row.proofs.outputs_of.Symbol.{name as #row·outputs-of}
-use Rattle.row.proofs.outputs_of.Met as outputs-of-thm
+use Rattle.il.proofs.outputs as outputs-fn
+use Rattle.il.proofs.outputs.Symbol as outputs-def
+use Rattle.il.proofs.outputs.Symbol.{name as #il·outputs}
+use Rattle.il.proofs.outputs.Met as outputs-thm
 use Rattle.row.proofs.scan.Key.{name as #row·scan}
 use Rattle.row.proofs.scan as f
 use Rattle.row.proofs.scan.Statement as stated
@@ -137,8 +137,8 @@ module _ {M : Type 1} (𝓤 : URA M) (H : Heap 𝓤) (A : Atoms 𝓤) (mem : Mem
   abbrev The-resume : Contract 𝓤
   The-resume = tripleOf 𝓤 H A resume-fn.signature (resume-fn.spec 𝓤 H A mem run)
 
-  abbrev The-outputs-of : Contract 𝓤
-  The-outputs-of = tripleOf 𝓤 H A outputs-of-fn.signature (outputs-of-fn.spec 𝓤 H A mem run)
+  abbrev The-outputs : Contract 𝓤
+  The-outputs = tripleOf 𝓤 H A outputs-fn.signature (outputs-fn.spec 𝓤 H A mem run)
 
 module _ {M : Type 1} (𝓤 : URA M) (H : Heap 𝓤) (A : Atoms 𝓤) (W : Given 𝓤 H A) (mem : Memory → SProp 𝓤) (run : Routine → Fun 𝓤) where
   typed-T : (d : Block) (w : Val) → Is-T d w → Holds (hasTy T′.mir w) × WT w
@@ -352,25 +352,25 @@ module _ {M : Type 1} (𝓤 : URA M) (H : Heap 𝓤) (A : Atoms 𝓤) (W : Given
         check ! (isr, e) $
         nothing ! $ keep ! (0 ∷ []) $ done !))))
 
-  -- ---- `outputs-of`
+  -- ---- `outputs`
   module _ (a₀ : Stop) (v₀ : Val) (is₀ : Is P.the-row a₀ (v₀ ∷ [])) where
-    abbrev to-outputs-of : The-outputs-of 𝓤 H A mem run .Ghost
-    to-outputs-of = ((tt, tt, tt, (a₀, tt), (v₀ ∷ [], tt)), tt)
+    abbrev to-outputs : The-outputs 𝓤 H A mem run .Ghost
+    to-outputs = ((tt, tt, tt, (a₀, tt), (v₀ ∷ [], tt)), tt)
 
-    goes-outputs-of : ent 𝓤 (⋆ 𝓤 H A (‵ ftrue ∷ [])) (The-outputs-of 𝓤 H A mem run .pre to-outputs-of)
-    goes-outputs-of =
+    goes-outputs : ent 𝓤 (⋆ 𝓤 H A (‵ ftrue ∷ [])) (The-outputs 𝓤 H A mem run .pre to-outputs)
+    goes-outputs =
         qed W (‵ ftrue ∷ []) ∵
         owned ! P.the-row (Is P.the-row) (LL.makes P.the-type P′.the-plain 𝓤 H A) a₀ _ is₀ $ fjoin ! $
         nothing ! $
         join ! $ frame ! $ done !
 
-    abbrev Gave-outputs-of : (w : Val) (r : ℕ) → Item 𝓤
-    Gave-outputs-of w r = given (Is u64 r (w ∷ []) × (r ≡ (a₀) .running .outputs)) (‵ ftrue)
+    abbrev Gave-outputs : (w : Val) (r : ℕ) → Item 𝓤
+    Gave-outputs w r = given (Is u64 r (w ∷ []) × (r ≡ (a₀) .running .outputs)) (‵ ftrue)
 
-    gives-outputs-of : (w : Val) → ent 𝓤 (The-outputs-of 𝓤 H A mem run .post to-outputs-of w) (H .⇛ (ex 𝓤 (λ (r : ℕ). mean 𝓤 H A (Gave-outputs-of w r))))
-    gives-outputs-of w =
-        qed W (raw (The-outputs-of 𝓤 H A mem run .post to-outputs-of w) ∷ []) ∵ updating ! $
-        use1 W (later (some (λ (r : ℕ). (‵ ftrue ⊛ ‵ (u64 .own r (w ∷ []))) ⊛ some (λ (zs : (Unit {0} × Unit {0})). ‵ (lasts outputs-of-fn.ended tt (a₀, tt) zs) ⊛ raw (fact 𝓤 (r ≡ (a₀) .running .outputs)))))) (id⊢ 𝓤 _) $ await ! tt $
+    gives-outputs : (w : Val) → ent 𝓤 (The-outputs 𝓤 H A mem run .post to-outputs w) (H .⇛ (ex 𝓤 (λ (r : ℕ). mean 𝓤 H A (Gave-outputs w r))))
+    gives-outputs w =
+        qed W (raw (The-outputs 𝓤 H A mem run .post to-outputs w) ∷ []) ∵ updating ! $
+        use1 W (later (some (λ (r : ℕ). (‵ ftrue ⊛ ‵ (u64 .own r (w ∷ []))) ⊛ some (λ (zs : (Unit {0} × Unit {0})). ‵ (lasts outputs-fn.ended tt (a₀, tt) zs) ⊛ raw (fact 𝓤 (r ≡ (a₀) .running .outputs)))))) (id⊢ 𝓤 _) $ await ! tt $
         pick ! (λ r. split ! $ move ! (1 ∷ []) $
         pick ! (λ zs. split ! $ move ! (1 ∷ []) $
         heard ! (r ≡ (a₀) .running .outputs) (λ e.
@@ -379,7 +379,7 @@ module _ {M : Type 1} (𝓤 : URA M) (H : Heap 𝓤) (A : Atoms 𝓤) (W : Given
         move ! (1 ∷ []) $
         peeks ! u64 (Is u64) (shows 𝓤 H A u64) r (w ∷ []) (λ isr.
         at-once ! $
-        show ! (λ (r : ℕ). mean 𝓤 H A (Gave-outputs-of w r)) r $
+        show ! (λ (r : ℕ). mean 𝓤 H A (Gave-outputs w r)) r $
         check ! (isr, e) $
         nothing ! $ keep ! (0 ∷ []) $ done !))))
 
@@ -447,7 +447,7 @@ module _ {M : Type 1} (𝓤 : URA M) (H : Heap 𝓤) (A : Atoms 𝓤) (W : Given
   Fewer-wf : WellFounded Fewer
   Fewer-wf = InvImage·wf (λ (x : Place). length ws - x .0 .at) (Nat·lt-wfRel .wf)
 
-  module _ (𝓣 : Tables 𝓤 H) (known-q-word : Triple 𝓤 (𝓣 .C #row·q-word) (The-q-word 𝓤 H A mem run)) (known-begin : Triple 𝓤 (𝓣 .C #il·begin) (The-begin 𝓤 H A mem run)) (known-advance : Triple 𝓤 (𝓣 .C #il·advance) (The-advance 𝓤 H A mem run)) (known-call : Triple 𝓤 (𝓣 .C #row·call) (The-call 𝓤 H A mem run)) (known-resume : Triple 𝓤 (𝓣 .C #il·resume) (The-resume 𝓤 H A mem run)) (known-outputs-of : Triple 𝓤 (𝓣 .C #row·outputs-of) (The-outputs-of 𝓤 H A mem run)) (l₀ l₁ l₂ l₃ l₄ l₅ l₆ l₇ l₈ l₉ l₁₀ l₁₁ l₁₂ l₁₃ l₁₄ l₁₅ l₁₆ l₁₇ qs : ℕ) where
+  module _ (𝓣 : Tables 𝓤 H) (known-q-word : Triple 𝓤 (𝓣 .C #row·q-word) (The-q-word 𝓤 H A mem run)) (known-begin : Triple 𝓤 (𝓣 .C #il·begin) (The-begin 𝓤 H A mem run)) (known-advance : Triple 𝓤 (𝓣 .C #il·advance) (The-advance 𝓤 H A mem run)) (known-call : Triple 𝓤 (𝓣 .C #row·call) (The-call 𝓤 H A mem run)) (known-resume : Triple 𝓤 (𝓣 .C #il·resume) (The-resume 𝓤 H A mem run)) (known-outputs : Triple 𝓤 (𝓣 .C #il·outputs) (The-outputs 𝓤 H A mem run)) (l₀ l₁ l₂ l₃ l₄ l₅ l₆ l₇ l₈ l₉ l₁₀ l₁₁ l₁₂ l₁₃ l₁₄ l₁₅ l₁₆ l₁₇ qs : ℕ) where
     abbrev C : Calls 𝓤 H
     C = 𝓣 .C
 
@@ -531,9 +531,9 @@ module _ {M : Type 1} (𝓤 : URA M) (H : Heap 𝓤) (A : Atoms 𝓤) (W : Given
         forget ! 24 refl $
         again ! Fewer At y (r₃, (fs′, (z₂₀, ((subst (Is-P r₃) (told-P r₃ w₃ (e₃ .0)) (e₃ .0)), (goes-on y t fs′ h (is-true (t .due) go) z₂₀ r₂ r₃ ((e₂ .1 .0) .0) ((e₂ .1 .0) .1) (e₃ .1) ∙ y .1 .1 .1 .1 .0, (lf, ((e₂ .1 .1) ∙ (y .1 .1 .1 .1 .1 .1)))))))) (fewer y t fs′ h (is-true (t .due) go) r₂ r₃ (e₃ .1))))))))))))
         (λ off.
-        nothing ! $ use1 W (raw (The-outputs-of 𝓤 H A mem run .pre (to-outputs-of 𝓤 H A W mem run t (mach-P t) ist))) (goes-outputs-of 𝓤 H A W mem run t (mach-P t) ist) $
-        calls-at ! fm (The-outputs-of 𝓤 H A mem run) known-outputs-of (to-outputs-of 𝓤 H A W mem run t (mach-P t) ist) (and-then ! (load ! (from ! (stop !)) (look ! 23 refl)) (no-more !)) (λ w₈.
-        use1 W (later (some (λ (r : ℕ). Gave-outputs-of 𝓤 H A W mem run t (mach-P t) ist w₈ r))) (gives-outputs-of 𝓤 H A W mem run t (mach-P t) ist w₈) $ await ! tt $
+        nothing ! $ use1 W (raw (The-outputs 𝓤 H A mem run .pre (to-outputs 𝓤 H A W mem run t (mach-P t) ist))) (goes-outputs 𝓤 H A W mem run t (mach-P t) ist) $
+        calls-at ! fm (The-outputs 𝓤 H A mem run) known-outputs (to-outputs 𝓤 H A W mem run t (mach-P t) ist) (and-then ! (load ! (from ! (stop !)) (look ! 23 refl)) (no-more !)) (λ w₈.
+        use1 W (later (some (λ (r : ℕ). Gave-outputs 𝓤 H A W mem run t (mach-P t) ist w₈ r))) (gives-outputs 𝓤 H A W mem run t (mach-P t) ist w₈) $ await ! tt $
         pick ! (λ r₈.
         learn ! (λ e₈.
         drop ! $
@@ -632,9 +632,9 @@ module _ {M : Type 1} (𝓤 : URA M) (H : Heap 𝓤) (A : Atoms 𝓤) (W : Given
   unfolding scanOf
   starts q p e f g = rw (f, g, e)
 
-  walk : (𝓣 : Tables 𝓤 H) → Triple 𝓤 (𝓣 .C #row·q-word) (The-q-word 𝓤 H A mem run) → Triple 𝓤 (𝓣 .C #il·begin) (The-begin 𝓤 H A mem run) → Triple 𝓤 (𝓣 .C #il·advance) (The-advance 𝓤 H A mem run) → Triple 𝓤 (𝓣 .C #row·call) (The-call 𝓤 H A mem run) → Triple 𝓤 (𝓣 .C #il·resume) (The-resume 𝓤 H A mem run) → Triple 𝓤 (𝓣 .C #row·outputs-of) (The-outputs-of 𝓤 H A mem run)
+  walk : (𝓣 : Tables 𝓤 H) → Triple 𝓤 (𝓣 .C #row·q-word) (The-q-word 𝓤 H A mem run) → Triple 𝓤 (𝓣 .C #il·begin) (The-begin 𝓤 H A mem run) → Triple 𝓤 (𝓣 .C #il·advance) (The-advance 𝓤 H A mem run) → Triple 𝓤 (𝓣 .C #row·call) (The-call 𝓤 H A mem run) → Triple 𝓤 (𝓣 .C #il·resume) (The-resume 𝓤 H A mem run) → Triple 𝓤 (𝓣 .C #il·outputs) (The-outputs 𝓤 H A mem run)
       → ent 𝓤 (onEntry 𝓤 H A f.signature (κ₀, (κ₃, (κ₄, tt))) (q₀, (q₃, (q₄, tt))) ((x-ws γ₀ ws), (st, (x, ((x-fs γ₃ fs₀), ((x-bs γ₄ bs₀), tt))))) (v-ws ∷ [], ((vint w32 st) ∷ [], ((vint w64 x) ∷ [], (v-fs ∷ [], (v-bs ∷ [], tt)))))) (WpFn 𝓤 H (𝓣 .C) (𝓣 .Λ) code.function (v-ws ∷ (vint w32 st) ∷ (vint w64 x) ∷ v-fs ∷ v-bs ∷ []) Post)
-  walk 𝓣 known-q-word known-begin known-advance known-call known-resume known-outputs-of =
+  walk 𝓣 known-q-word known-begin known-advance known-call known-resume known-outputs =
       qed W ((‵ (flft κ₀ q₀) ⊛ (‵ (flft κ₃ q₃) ⊛ (‵ (flft κ₄ q₄) ⊛ ‵ ftrue))) ∷ ‵ (owns (ShrSlice (named 0) κ₀ u32 ∷ u32 ∷ u64 ∷ MutSlice (named 1) κ₃ u8 ∷ MutSlice (named 2) κ₄ T.the-row ∷ []) ((x-ws γ₀ ws), (st, (x, ((x-fs γ₃ fs₀), ((x-bs γ₄ bs₀), tt))))) (v-ws ∷ [], ((vint w32 st) ∷ [], ((vint w64 x) ∷ [], (v-fs ∷ [], (v-bs ∷ [], tt)))))) ∷ []) ∵
       enter ! (𝓣 .C) (𝓣 .Λ) code.function (v-ws ∷ (vint w32 st) ∷ (vint w64 x) ∷ v-fs ∷ v-bs ∷ []) _ $
       alloc1 ! (λ l₀.
@@ -705,12 +705,12 @@ module _ {M : Type 1} (𝓤 : URA M) (H : Heap 𝓤) (A : Atoms 𝓤) (W : Given
       learn ! (λ e₂.
       drop ! $
       land ! (from ! (stop !)) (init ! 26 refl (typed-P 𝓤 H A W mem run r₂ w₂ (e₂ .0))) $ rewrite ! 26 (λ (u : Val). ‵ (fat fullShare P′.mir l₇ 0 u)) (told-P r₂ w₂ (e₂ .0)) refl $
-      first ! $ blocks ! $ loops ! 𝓣 Fewer Fewer-wf (At 𝓣 known-q-word known-begin known-advance known-call known-resume known-outputs-of l₀ l₁ l₂ l₃ l₄ l₅ l₆ l₇ l₈ l₉ l₁₀ l₁₁ l₁₂ l₁₃ l₁₄ l₁₅ l₁₆ l₁₇ r₁) (turns 𝓣 known-q-word known-begin known-advance known-call known-resume known-outputs-of l₀ l₁ l₂ l₃ l₄ l₅ l₆ l₇ l₈ l₉ l₁₀ l₁₁ l₁₂ l₁₃ l₁₄ l₁₅ l₁₆ l₁₇ r₁) (r₂, (fs₀, (bs₀, ((subst (Is-P r₂) (told-P r₂ w₂ (e₂ .0)) (e₂ .0)), (starts r₁ r₂ (e₁ .1) ((e₂ .1) .0) ((e₂ .1) .1), (refl, refl))))))))))))))))))))))))))))))))
+      first ! $ blocks ! $ loops ! 𝓣 Fewer Fewer-wf (At 𝓣 known-q-word known-begin known-advance known-call known-resume known-outputs l₀ l₁ l₂ l₃ l₄ l₅ l₆ l₇ l₈ l₉ l₁₀ l₁₁ l₁₂ l₁₃ l₁₄ l₁₅ l₁₆ l₁₇ r₁) (turns 𝓣 known-q-word known-begin known-advance known-call known-resume known-outputs l₀ l₁ l₂ l₃ l₄ l₅ l₆ l₇ l₈ l₉ l₁₀ l₁₁ l₁₂ l₁₃ l₁₄ l₁₅ l₁₆ l₁₇ r₁) (r₂, (fs₀, (bs₀, ((subst (Is-P r₂) (told-P r₂ w₂ (e₂ .0)) (e₂ .0)), (starts r₁ r₂ (e₁ .1) ((e₂ .1) .0) ((e₂ .1) .1), (refl, refl))))))))))))))))))))))))))))))))
 
-module _ {M : Type 1} (𝓤 : URA M) (H : Heap 𝓤) (A : Atoms 𝓤) (W : Given 𝓤 H A) (mem : Memory → SProp 𝓤) (run : Routine → Fun 𝓤) (𝓣 : Tables 𝓤 H) (known-q-word : Triple 𝓤 (𝓣 .C #row·q-word) (The-q-word 𝓤 H A mem run)) (known-begin : Triple 𝓤 (𝓣 .C #il·begin) (The-begin 𝓤 H A mem run)) (known-advance : Triple 𝓤 (𝓣 .C #il·advance) (The-advance 𝓤 H A mem run)) (known-call : Triple 𝓤 (𝓣 .C #row·call) (The-call 𝓤 H A mem run)) (known-resume : Triple 𝓤 (𝓣 .C #il·resume) (The-resume 𝓤 H A mem run)) (known-outputs-of : Triple 𝓤 (𝓣 .C #row·outputs-of) (The-outputs-of 𝓤 H A mem run)) where
+module _ {M : Type 1} (𝓤 : URA M) (H : Heap 𝓤) (A : Atoms 𝓤) (W : Given 𝓤 H A) (mem : Memory → SProp 𝓤) (run : Routine → Fun 𝓤) (𝓣 : Tables 𝓤 H) (known-q-word : Triple 𝓤 (𝓣 .C #row·q-word) (The-q-word 𝓤 H A mem run)) (known-begin : Triple 𝓤 (𝓣 .C #il·begin) (The-begin 𝓤 H A mem run)) (known-advance : Triple 𝓤 (𝓣 .C #il·advance) (The-advance 𝓤 H A mem run)) (known-call : Triple 𝓤 (𝓣 .C #row·call) (The-call 𝓤 H A mem run)) (known-resume : Triple 𝓤 (𝓣 .C #il·resume) (The-resume 𝓤 H A mem run)) (known-outputs : Triple 𝓤 (𝓣 .C #il·outputs) (The-outputs 𝓤 H A mem run)) where
   walks : Walks 𝓤 H A f.ended stayed (WpFn 𝓤 H (𝓣 .C) (𝓣 .Λ) code.function) (f.clauses 𝓤 H A mem run)
   walks = walked 𝓤 H A f.ended stayed (f.clauses 𝓤 H A mem run) (WpFn 𝓤 H (𝓣 .C) (𝓣 .Λ) code.function) (λ κs. (slice-vals, (uint-vals w32, (uint-vals w64, (slice-vals, (slice-vals, tt)))))) (λ κs. (shr-slice-tells (named 0) (κs .0) u32, (uint-tells w32, (uint-tells w64, (mut-slice-tells (named 1) (κs .1 .0) u8, (mut-slice-tells (named 2) (κs .1 .1 .0) T.the-row, tt))))))
-      (λ κs qs bounds a g are. via 𝓤 _ (fst∗ 𝓤 _ (emp 𝓤)) (walk 𝓤 H A W mem run (κs .0) (qs .0) (a .0 .ptr .0) (a .0 .ptr .1) (a .0 .name) (a .0 .now) (are .0 .0 .1) (κs .1 .0) (qs .1 .0) (a .1 .1 .1 .0 .ptr .0) (a .1 .1 .1 .0 .ptr .1) (a .1 .1 .1 .0 .name) (a .1 .1 .1 .0 .now) (are .1 .1 .1 .0 .0 .1) (κs .1 .1 .0) (qs .1 .1 .0) (a .1 .1 .1 .1 .0 .ptr .0) (a .1 .1 .1 .1 .0 .ptr .1) (a .1 .1 .1 .1 .0 .name) (a .1 .1 .1 .1 .0 .now) (are .1 .1 .1 .1 .0 .0 .1) (a .1 .0) (refl, are .1 .0 .1) (a .1 .1 .0) (refl, are .1 .1 .0 .1) 𝓣 known-q-word known-begin known-advance known-call known-resume known-outputs-of))
+      (λ κs qs bounds a g are. via 𝓤 _ (fst∗ 𝓤 _ (emp 𝓤)) (walk 𝓤 H A W mem run (κs .0) (qs .0) (a .0 .ptr .0) (a .0 .ptr .1) (a .0 .name) (a .0 .now) (are .0 .0 .1) (κs .1 .0) (qs .1 .0) (a .1 .1 .1 .0 .ptr .0) (a .1 .1 .1 .0 .ptr .1) (a .1 .1 .1 .0 .name) (a .1 .1 .1 .0 .now) (are .1 .1 .1 .0 .0 .1) (κs .1 .1 .0) (qs .1 .1 .0) (a .1 .1 .1 .1 .0 .ptr .0) (a .1 .1 .1 .1 .0 .ptr .1) (a .1 .1 .1 .1 .0 .name) (a .1 .1 .1 .1 .0 .now) (are .1 .1 .1 .1 .0 .0 .1) (a .1 .0) (refl, are .1 .0 .1) (a .1 .1 .0) (refl, are .1 .1 .0 .1) 𝓣 known-q-word known-begin known-advance known-call known-resume known-outputs))
 
   meets : Meets 𝓤 H A f.signature (WpFn 𝓤 H (𝓣 .C) (𝓣 .Λ) code.function) (f.spec 𝓤 H A mem run)
   meets = walk-meets 𝓤 H A f.ended stayed W (goes-none-slice 𝓤 H A W 3 (0 ∷ []) tt (plain (λ _. u32)) yes, (goes-dropped 𝓤 H A W 3 (plain (λ _. u32)) yes (λ κs x f. refl), (goes-dropped 𝓤 H A W 3 (plain (λ _. u64)) yes (λ κs x f. refl), (goes-slice 𝓤 H A W 3 1 tt (plain (λ _. u8)), (goes-slice 𝓤 H A W 3 2 tt (plain (λ _. T.the-row)), tt))))) (f.clauses 𝓤 H A mem run) (WpFn 𝓤 H (𝓣 .C) (𝓣 .Λ) code.function) (WpFn-mono 𝓤 H (W .laws) 𝓣 code.function) walks
@@ -726,4 +726,4 @@ scan-spec 𝓤 H 𝓜 𝓖 𝓡 =
     (cited 𝓤 H (The-advance 𝓤 H (𝓖 .A) (𝓜 .mem) (𝓡 .run)) 𝓜 𝓡 code.env #il·advance advance-def.routine code.calls-il·advance (advance-thm.met 𝓤 H 𝓜 𝓖 𝓡))
     (cited 𝓤 H (The-call 𝓤 H (𝓖 .A) (𝓜 .mem) (𝓡 .run)) 𝓜 𝓡 code.env #row·call call-def.routine code.calls-row·call (call-thm.met 𝓤 H 𝓜 𝓖 𝓡))
     (cited 𝓤 H (The-resume 𝓤 H (𝓖 .A) (𝓜 .mem) (𝓡 .run)) 𝓜 𝓡 code.env #il·resume resume-def.routine code.calls-il·resume (resume-thm.met 𝓤 H 𝓜 𝓖 𝓡))
-    (cited 𝓤 H (The-outputs-of 𝓤 H (𝓖 .A) (𝓜 .mem) (𝓡 .run)) 𝓜 𝓡 code.env #row·outputs-of outputs-of-def.routine code.calls-row·outputs-of (outputs-of-thm.met 𝓤 H 𝓜 𝓖 𝓡)))
+    (cited 𝓤 H (The-outputs 𝓤 H (𝓖 .A) (𝓜 .mem) (𝓡 .run)) 𝓜 𝓡 code.env #il·outputs outputs-def.routine code.calls-il·outputs (outputs-thm.met 𝓤 H 𝓜 𝓖 𝓡)))

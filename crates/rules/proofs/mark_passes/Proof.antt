@@ -1,5 +1,4 @@
 use Rattle.rules.specs.Parts.{below-same}
-use Rattle.meaning.specs.Check.{below}
 use mir.Facts.{toZ-ofZ}
 use borrow.Author.Needs.{sfits-of}
 use mathlib.Core.Path.{_∙_, refl}

@@ -1,7 +1,7 @@
 use borrow.Author.Tests.{not-true, not-false}
 use Rattle.rules.specs.Parts.{below-same}
 use Rattle.tables.specs.Given.{state-count}
-use Rattle.meaning.specs.Check.{movePasses, below}
+use Rattle.meaning.specs.Check.{movePasses}
 use mir.Facts.{toZ-ofZ}
 use borrow.Author.Needs.{sfits-of}
 use mathlib.Core.Path.{sym, _∙_}

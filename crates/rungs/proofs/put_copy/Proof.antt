@@ -6,44 +6,80 @@ use Rattle.meaning.specs.declared.Operand.the-variants.{Mx}
 use Rattle.meaning.specs.declared.Operator.the-variants.{Ld, St}
 use Rattle.bits.specs.SentLaws.{put-cons, put-line}
 use Rattle.rungs.specs.RungLaws.{copy-lines}
+use Prim.Native.Nat.{_%_}
+use Rattle.format.specs.Text.{line, operatorText}
+use Rattle.lines.specs.Fit.{fit-fit}
 use borrow.Author.Needs.{needs}
 use Rattle.rungs.proofs.put_copy.Statement.{statement}
 use Rattle.rungs.proofs.put_copy.Tie as tie
+use Rattle.rungs.proofs.put_copy.Reads as reads
+use Rattle.rungs.proofs.put_copy.Lts as lts
+use Rattle.lines.proofs.put_part.Reads as put-part-reads
+use Rattle.spelling.proofs.put_mx.Reads as put-mx-reads
 
-add-flip-flop : tie.Need-add-flip-flop
-add-flip-flop c = search needs
+-- src/lib.rt:152:16
+add-copy : tie.Need-add-copy
+add-copy c = search needs
 
-flip-flop-requires : tie.Need-flip-flop-requires
-flip-flop-requires c κs = search needs
+-- src/lib.rt:153:38
+slice-aggregate-put-part : tie.Need-slice-aggregate-put-part
+slice-aggregate-put-part c = search needs
 
-put-operator-requires : tie.Need-put-operator-requires
-put-operator-requires c κs = search needs
+-- src/lib.rt:153:9
+put-part-requires : tie.Need-put-part-requires
+put-part-requires c κs = search needs
 
-flip-flop-requires-2 : tie.Need-flip-flop-requires-2
-flip-flop-requires-2 c κs = search needs
+-- src/lib.rt:154:38
+cast-put-mx : tie.Need-cast-put-mx
+cast-put-mx c = search needs
 
-put-operator-requires-2 : tie.Need-put-operator-requires-2
-put-operator-requires-2 c κs = search needs
+-- src/lib.rt:154:9
+put-mx-requires : tie.Need-put-mx-requires
+put-mx-requires c κs = search needs
 
+-- src/lib.rt:155:40
+slice-aggregate-put-part-2 : tie.Need-slice-aggregate-put-part-2
+slice-aggregate-put-part-2 c = search needs
+
+-- src/lib.rt:155:9
+put-part-requires-2 : tie.Need-put-part-requires-2
+put-part-requires-2 c κs = search needs
+
+-- src/lib.rt:156:33
+cast-put-mx-2 : tie.Need-cast-put-mx-2
+cast-put-mx-2 c = search needs
+
+-- src/lib.rt:156:5
+put-mx-requires-2 : tie.Need-put-mx-requires-2
+put-mx-requires-2 c κs = search needs
+
+-- src/lib.rt:149:1
 same-length : tie.Need-same-length
 same-length c = search needs
 
+-- src/lib.rt:149:1
 returns : tie.Need-returns
+unfolding line operatorText
 returns c c' e h =
-    let b = c .before .before .before .before .before .before .before .before .before .before .before .args .b in
-    let total = c .before .before .before .before .before .before .before .before .before .before .before .args .total in
-    rw (copy-lines c' b, ← e)
-    (put-cons (Ld (Mx (total + b))) (St (Mx b) ∷ []) (rw (c .before .before .before .before .before .before .before .before .flip-flop .ensures h) at (c .before .before .before .before .before .before .before .put-operator .ensures))
-    (put-line (St (Mx b)) (rw (c .before .before .before .flip-flop2 .ensures (omega arith)) at (c .before .before .put-operator2 .ensures))))
+    let a = c .before .before .before .before .before .before .before .before .before .before .before .before .before .before .before .before .before .before .before .args in
+    let m : (a .total + a .b) % 65536 ≡ a .total + a .b = omega arith in
+    let k : a .b % 65536 ≡ a .b = omega arith in
+    rw (copy-lines c' (a .b), ← e)
+    (put-cons (Ld (Mx (a .total + a .b))) (St (Mx (a .b)) ∷ []) (fit-fit (c .before .before .before .before .before .before .before .before .before .before .before .before .before .before .before .put-part .ensures) (rw m at (c .before .before .before .before .before .before .before .before .before .before .before .put-mx .ensures)))
+    (put-line (St (Mx (a .b))) (fit-fit (c .before .before .before .before .before .before .put-part2 .ensures) (rw k at (c .before .before .put-mx2 .ensures)))))
 
 pub put-copy-spec : {M : Type 1} → statement M
 put-copy-spec =
     tie.close
     (tie.spec
-    add-flip-flop
-    flip-flop-requires
-    put-operator-requires
-    flip-flop-requires-2
-    put-operator-requires-2
+    add-copy
+    slice-aggregate-put-part
+    put-part-requires
+    cast-put-mx
+    put-mx-requires
+    slice-aggregate-put-part-2
+    put-part-requires-2
+    cast-put-mx-2
+    put-mx-requires-2
     same-length
     returns)

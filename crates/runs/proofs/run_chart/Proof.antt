@@ -4,10 +4,6 @@ use Rattle.runs.specs.Runs.{refused-tables, accepted-tables}
 use borrow.Author.Needs.{needs}
 use Rattle.runs.proofs.run_chart.Statement.{statement}
 use Rattle.runs.proofs.run_chart.Tie as tie
-use Rattle.runs.proofs.run_chart.Reads as reads
-use Rattle.runs.proofs.run_chart.Lts as lts
-use Rattle.chart.proofs.check.Reads as check-reads
-use Rattle.lent.proofs.run_checked.Reads as run-checked-reads
 
 -- src/lib.rt:25:9
 check-requires : tie.Need-check-requires

@@ -8,7 +8,7 @@ use Rattle.whole.proofs.read_and_run.Tie as tie
 use Rattle.whole.proofs.read_and_run.Reads as reads
 use Rattle.whole.proofs.read_and_run.Lts as lts
 use Rattle.reader.proofs.read.Reads as read-reads
-use Rattle.whole.proofs.run_words.Reads as run-words-reads
+use Rattle.written_run.proofs.run_words.Reads as run-words-reads
 
 -- src/lib.rt:125:9
 read-requires : tie.Need-read-requires

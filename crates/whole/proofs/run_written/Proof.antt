@@ -12,7 +12,7 @@ use Rattle.whole.proofs.run_written.Lts as lts
 use Rattle.translate.proofs.write.Reads as write-reads
 use Rattle.whole.proofs.no_scans.Reads as no-scans-reads
 use Rattle.whole.proofs.read_and_run.Reads as read-and-run-reads
-use Rattle.whole.proofs.shorter.Reads as shorter-reads
+use Rattle.lengths.proofs.shorter.Reads as shorter-reads
 
 -- src/lib.rt:184:9
 no-scans-requires : tie.Need-no-scans-requires

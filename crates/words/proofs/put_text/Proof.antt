@@ -7,9 +7,9 @@ use Rattle.words.proofs.put_text.Statement.{statement}
 use Rattle.words.proofs.put_text.Tie as tie
 use Rattle.words.proofs.put_text.Reads as reads
 use Rattle.words.proofs.put_text.Lts as lts
-use Rattle.lines.proofs.put_end.Reads as put-end-reads
-use Rattle.lines.proofs.put_head.Reads as put-head-reads
-use Rattle.words.proofs.put_words.Reads as put-words-reads
+use Rattle.spelling.proofs.put_end.Reads as put-end-reads
+use Rattle.spelling.proofs.put_head.Reads as put-head-reads
+use Rattle.word_lines.proofs.put_words.Reads as put-words-reads
 
 -- src/lib.rt:53:9
 put-head-requires : tie.Need-put-head-requires

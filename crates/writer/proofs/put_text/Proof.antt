@@ -1,7 +1,8 @@
 use mathlib.Core.Path.{_≡_}
 use Rattle.layout.specs.LaidLaws.{total-is}
 use Rattle.bits.specs.Sent.{laid, Drawn}
-use Rattle.writer.specs.TextLaws.{timer-count, text-put}
+use Rattle.sections.specs.SectionLaws.{timer-count}
+use Rattle.writer.specs.TextLaws.{text-put}
 use lib.ListN.{length}
 use borrow.Author.Needs.{needs}
 use Rattle.writer.proofs.put_text.Statement.{statement}

@@ -3,8 +3,8 @@ use Rattle.instruction.proofs.Running.store_output.Statement.{statement
 use Rattle.instruction.proofs.Running.store_output.Tie as tie
 use Rattle.instruction.proofs.Running.store_output.Reads as reads
 use Rattle.instruction.proofs.Running.store_output.Lts as lts
-use Rattle.instruction.proofs.from_zero.Reads as from-zero-reads
-use Rattle.instruction.proofs.with_bit.Reads as with-bit-reads
+use Rattle.values.proofs.from_zero.Reads as from-zero-reads
+use Rattle.values.proofs.with_bit.Reads as with-bit-reads
 
 -- src/lib.rt:171:42
 from-zero-requires : tie.Need-from-zero-requires

@@ -1,0 +1,3 @@
+pub mod Words
+pub mod WordsLaws
+pub mod Once

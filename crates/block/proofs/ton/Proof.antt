@@ -1,0 +1,34 @@
+use mathlib.Core.Path.{_≡_}
+use mathlib.Core.Bool.{true, false}
+use Rattle.meaning.specs.Scan.{elapsed, ton}
+use borrow.Author.Needs.{needs}
+use Rattle.block.proofs.ton.Statement.{statement}
+use Rattle.block.proofs.ton.Tie as tie
+use Rattle.block.proofs.ton.Reads as reads
+use Rattle.block.proofs.ton.Lts as lts
+use Rattle.block.proofs.elapsed.Reads as elapsed-reads
+
+-- src/lib.rt:36:9
+elapsed-requires : tie.Need-elapsed-requires
+elapsed-requires c κs = search needs
+
+-- src/lib.rt:31:1
+returns : tie.Need-returns
+unfolding ton
+returns c =
+    let a = c .before .before .args in
+    let o : a .b .on ≡ true = c .if1 .taken in
+    let e : c .before .elapsed .result ≡ elapsed (a .step) (a .b) = c .before .elapsed .ensures in
+    rw (e, o)
+
+-- src/lib.rt:31:1
+returns-2 : tie.Need-returns-2
+unfolding ton
+returns-2 c =
+    let a = c .before .before .args in
+    let o : a .b .on ≡ false = c .if1 .left in
+    let e : c .before .elapsed .result ≡ elapsed (a .step) (a .b) = c .before .elapsed .ensures in
+    rw (e, o)
+
+pub ton-spec : {M : Type 1} → statement M
+ton-spec = tie.close (tie.spec elapsed-requires returns returns-2)

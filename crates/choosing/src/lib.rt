@@ -1,0 +1,163 @@
+// The enabled move: the literals as words and the moves by their source, and which of them holds.
+use asks::Asks;
+use tables::Chart;
+ghost use mathlib.Core.Path.{_≡_};
+ghost use Prim.Native.Nat.{ℕ, suc, _<_, _≤_, _+_, _/_};
+ghost use lib.ListN.{length, getD, set};
+ghost use Rattle.meaning.specs.Tables.{Tables, moveCount, source};
+ghost use Rattle.meaning.specs.Rules.{Rules};
+ghost use Rattle.meaning.specs.Machine.{chosen};
+ghost use Rattle.choosing.specs.Choice.{read, holdingAt, AskedTo, lastHolding, LinkedTo};
+ghost use Rattle.asks.specs.Words.{Asked};
+
+// ---- once for all scans
+
+fn wide(n: u16) -> usize
+    ensures { λ r. ⌜ (r ≡ n) × (r < 65536) ⌝ }
+{
+    n as usize
+}
+
+fn asks_of(moves: &[i16], i: usize) -> Asks
+    ensures { λ r. ⌜ ((c : Tables) → c .moves ≡ now (moves .entry) → Rules c → i < moveCount c → Asked c i 8 r) ⌝ }
+{
+    let mut a = Asks {
+        on: 0,
+        off: 0,
+        expired: 0,
+        unexpired: 0,
+        ended: false,
+        passes: true,
+    };
+    let mut k = 0;
+    while k < 8 {
+        let v = tables::literal(moves, i, k);
+        a = asks::ask(a, tables::wanted(v), tables::kind(v));
+        k += 1;
+    }
+    a
+}
+
+// Four words a move.
+pub fn make_asks(moves: &[i16], asks: &mut [u64])
+    ensures { λ _. ⌜ ((c : Tables) → c .moves ≡ now (moves .entry) → Rules c → moveCount c ≤ length (now (asks .entry)) / 4 → AskedTo c (moveCount c) (now (asks .exit))) ⌝ }
+{
+    let mut i = 0;
+    while i < moves.len() / 11 {
+        asks::put_words(asks, i, asks_of(moves, i));
+        i += 1;
+    }
+}
+
+fn link(moves: &[i16], i: usize, links: &mut [u16])
+    requires { ⌜ i < 512 ⌝ }
+    ensures { λ _. ⌜ ((c : Tables) → c .moves ≡ now (moves .entry) → source c i < 256 → 768 ≤ length (now (links .entry))
+        → now (links .exit) ≡ set (set (now (links .entry)) (256 + i) (getD (now (links .entry)) (source c i) 0)) (source c i) (suc i)) ⌝ }
+{
+    let s = tables::source(moves, i);
+    if 255 < s {
+        return;
+    }
+    if links.len() < 768 {
+        return;
+    }
+    links[256 + i] = links[s];
+    links[s] = (i + 1) as u16;
+}
+
+// The moves by their source: at s the last from state s, and at 256 + i the one before move i from the same state. They
+// count from 1 here, and 0 is none.
+pub fn make_links(moves: &[i16], links: &mut [u16])
+    ensures { λ _. ⌜ ((c : Tables) → c .moves ≡ now (moves .entry) → Rules c → 768 ≤ length (now (links .entry)) → ((s : ℕ) → getD (now (links .entry)) s 0 ≡ 0)
+        → LinkedTo c (moveCount c) (now (links .exit))) ⌝ }
+{
+    let mut i = 0;
+    while i < moves.len() / 11 {
+        if Chart::MOVES <= i {
+            return;
+        }
+        link(moves, i, links);
+        i += 1;
+    }
+}
+
+// ---- each scan
+
+// Whether the literals of move i hold, for the input word x and the word y of the expired timers.
+fn hold(asks: &[u64], i: usize, x: u64, y: u64) -> bool
+    ensures { λ r. ⌜ (i < length (now (asks .entry)) / 4 → r ≡ holdingAt x y (now (asks .entry)) i) ⌝ }
+{
+    if asks.len() / 4 <= i {
+        return false;
+    }
+    let at = 4 * i;
+    if (18446744073709551615 - x) & asks[at] != 0 {
+        return false;
+    }
+    if x & asks[at + 1] != 0 {
+        return false;
+    }
+    if (18446744073709551615 - y) & asks[at + 2] != 0 {
+        return false;
+    }
+    y & asks[at + 3] == 0
+}
+
+fn link_at(links: &[u16], n: usize) -> usize
+    ensures { λ r. ⌜ (r ≡ getD (now (links .entry)) n 0) × (r < 65536) ⌝ }
+{
+    if links.len() <= n {
+        return 0;
+    }
+    wide(links[n])
+}
+
+// The move from state s whose literals hold, counted from 1; 0 if there is none.
+fn chosen_from(links: &[u16], asks: &[u64], s: usize, x: u64, y: u64) -> usize
+    ensures { λ r. ⌜ ((c : Tables) → Rules c → LinkedTo c (moveCount c) (now (links .entry)) → AskedTo c (moveCount c) (now (asks .entry)) → moveCount c ≤ length (now (asks .entry)) / 4 → s < 256
+        → r ≡ lastHolding c (read x y) s (moveCount c)) ⌝ }
+{
+    let mut j = link_at(links, s);
+    while 0 < j {
+        if hold(asks, j - 1, x, y) {
+            return j;
+        }
+        let next = link_at(links, 255 + j);
+        if j <= next {
+            return 0;
+        }
+        j = next;
+    }
+    0
+}
+
+// "An accepted chart never has two enabled": so the path is gone up from the leaf l, whatever the moves' order. The
+// number of moves if there is none.
+pub fn chosen(
+    states: &[u16],
+    moves: &[i16],
+    links: &[u16],
+    asks: &[u64],
+    l: usize,
+    x: u64,
+    y: u64,
+) -> usize
+    ensures { λ r. ⌜ ((c : Tables) → c .states ≡ now (states .entry) → c .moves ≡ now (moves .entry) → Rules c
+        → LinkedTo c (moveCount c) (now (links .entry)) → AskedTo c (moveCount c) (now (asks .entry)) → moveCount c ≤ length (now (asks .entry)) / 4 → l < 256
+        → r ≡ chosen c (read x y) l) ⌝ }
+{
+    let mut s = l;
+    let mut k = 0;
+    while k <= Chart::DEPTH {
+        let j = chosen_from(links, asks, s, x, y);
+        if 0 < j {
+            return j - 1;
+        }
+        if s == 0 {
+            return moves.len() / 11;
+        }
+        s = tables::super_state(states, s);
+        k += 1;
+    }
+    moves.len() / 11
+}

@@ -1,0 +1,4 @@
+pub mod Forms
+pub mod Spelling
+pub mod FormLaws
+pub mod Once

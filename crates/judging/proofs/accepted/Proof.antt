@@ -1,0 +1,24 @@
+use borrow.Author.Needs.{needs}
+use Rattle.judging.proofs.accepted.Statement.{statement}
+use Rattle.judging.proofs.accepted.Tie as tie
+use Rattle.judging.proofs.accepted.Reads as reads
+use Rattle.judging.proofs.accepted.Lts as lts
+
+-- src/lib.rt:89:30
+enum-told : tie.Need-enum-told
+enum-told c = search needs
+
+-- src/lib.rt:90:32
+enum-told-2 : tie.Need-enum-told-2
+enum-told-2 c = search needs
+
+-- src/lib.rt:85:1
+returns : tie.Need-returns
+returns c = search needs
+
+-- src/lib.rt:85:1
+returns-2 : tie.Need-returns-2
+returns-2 c = search needs
+
+pub accepted-spec : {M : Type 1} → statement M
+accepted-spec = tie.close (tie.spec enum-told enum-told-2 returns returns-2)

@@ -1,0 +1,76 @@
+// The checks before a program is run, in their order.
+use meaning::Refusal;
+use meaning::Verdict;
+use phases::Passed;
+ghost use mathlib.Core.Path.{_≡_};
+ghost use mathlib.Core.Bool.{Bool};
+ghost use mathlib.Core.Logic.{_↔_};
+ghost use lib.Dec.{eqb};
+ghost use Rattle.judging.specs.Judged.{StatePasses, JudgedBy, restOf, isAccepted};
+
+// 14 STATE, for a lent controller with so many blocks, which are in time or not, of a program that declares `blocks`.
+fn state_passes(words: &[u32], ff: &[u8], count: usize, blocks: usize, timely: bool) -> bool
+    ensures { λ r. ⌜ (r ≡ Bool.true) ↔ StatePasses (now (words .entry)) (now (ff .entry)) count blocks timely ⌝ }
+{
+    let bytes = sizes::flip_flop_bytes(words);
+    if ff.len() != bytes {
+        return false;
+    }
+    if count != blocks {
+        return false;
+    }
+    if timely {
+        return controller::are_bits(ff);
+    }
+    false
+}
+
+fn then_scans(ok: bool, scans: usize, results: usize) -> Verdict
+    ensures { λ r. ⌜ r ≡ restOf ok (eqb results scans) ⌝ }
+{
+    if ok {
+        if results == scans {
+            return Verdict::Accepted;
+        }
+        return Verdict::Refused(Refusal::Scans);
+    }
+    Verdict::Refused(Refusal::State)
+}
+
+// "Checks 1 to 11 come first wherever tables or a scan step are given, then 13 where text or words are given, then 14, 15"
+pub fn judge(
+    step: u32,
+    words: &[u32],
+    ff: &[u8],
+    count: usize,
+    timely: bool,
+    scans: usize,
+    results: usize,
+) -> Verdict
+    ensures { λ r. ⌜ JudgedBy step (now (words .entry)) (now (ff .entry)) count timely scans results r ⌝ }
+{
+    if step < 1 {
+        return Verdict::Refused(Refusal::Size);
+    }
+    if 1000 < step {
+        return Verdict::Refused(Refusal::Size);
+    }
+    let passed = phases::words_pass(words);
+    match passed {
+        Passed::Accepted(d) => {
+            let ok = state_passes(words, ff, count, d as usize, timely);
+            then_scans(ok, scans, results)
+        }
+        Passed::Refused(k) => Verdict::Refused(Refusal::Text(k)),
+    }
+}
+
+// Whether a verdict accepts.
+pub fn accepted(v: Verdict) -> bool
+    ensures { λ r. ⌜ r ≡ isAccepted v ⌝ }
+{
+    match v {
+        Verdict::Accepted => true,
+        Verdict::Refused(_) => false,
+    }
+}

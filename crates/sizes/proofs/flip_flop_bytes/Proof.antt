@@ -1,0 +1,72 @@
+use Rattle.sizes.specs.Bytes.{bytesNamed, bytes-on, bytes-end}
+use lib.ListN.{length, drop}
+use native.Mathlib.Omega.{arith}
+use Prim.Native.Nat.{_-_, max}
+use mathlib.Core.Logic.{⊎-elim}
+use mathlib.Core.Path.{_≡_}
+use borrow.Author.Needs.{needs}
+use Rattle.sizes.proofs.flip_flop_bytes.Statement.{statement}
+use Rattle.sizes.proofs.flip_flop_bytes.Tie as tie
+use Rattle.sizes.proofs.flip_flop_bytes.Reads as reads
+use Rattle.sizes.proofs.flip_flop_bytes.Lts as lts
+use Rattle.sizes.proofs.bytes_of.Reads as bytes-of-reads
+
+abbrev Inv-loop : tie.InvT-loop
+Inv-loop words most₀ i₀ most i = max most (bytesNamed (drop i words)) ≡ bytesNamed words
+
+abbrev μ-loop : tie.MeasureT-loop
+μ-loop words most₀ i₀ most i = length words - i
+
+-- src/lib.rt:89:5
+loop-holds : tie.Need-loop-holds Inv-loop μ-loop
+loop-holds c = omega arith
+
+-- src/lib.rt:90:26
+mul-bytes-of : tie.Need-mul-bytes-of Inv-loop μ-loop
+mul-bytes-of c = search needs
+
+-- src/lib.rt:90:26
+shared-slice-read-bytes-of : tie.Need-shared-slice-read-bytes-of Inv-loop μ-loop
+shared-slice-read-bytes-of c = omega arith
+
+-- src/lib.rt:90:13
+bytes-of-requires : tie.Need-bytes-of-requires Inv-loop μ-loop
+bytes-of-requires c κs = tt
+
+-- src/lib.rt:94:9
+add-i : tie.Need-add-i Inv-loop μ-loop
+add-i c = omega arith
+
+-- src/lib.rt:89:5
+loop-less : tie.Need-loop-less Inv-loop μ-loop
+loop-less c = omega arith
+
+-- src/lib.rt:89:5
+loop-again : tie.Need-loop-again Inv-loop μ-loop
+loop-again c =
+    let l = c .before .before .before .before .loop in
+    let n = c .before .bytes-of .ensures in
+    let o = bytes-on (c .before .before .before .before .before .before .args .words .now) (l .i) (omega arith) in
+    ⊎-elim (λ w. omega (arith, n, o, l .inv)) (λ w. omega (arith, n, o, l .inv)) (c .if1 .came)
+
+-- src/lib.rt:84:1
+returns : tie.Need-returns Inv-loop μ-loop
+returns c =
+    let l = c .before .loop in
+    let e = bytes-end (c .before .before .before .args .words .now) (l .i) (omega arith) in
+    omega (arith, l .inv, e)
+
+pub flip-flop-bytes-spec : {M : Type 1} → statement M
+flip-flop-bytes-spec =
+    tie.close
+    (tie.spec
+    Inv-loop
+    μ-loop
+    loop-holds
+    mul-bytes-of
+    shared-slice-read-bytes-of
+    bytes-of-requires
+    add-i
+    loop-less
+    loop-again
+    returns)

@@ -1,0 +1,4 @@
+pub mod Digits
+pub mod Declared
+pub mod Blocks
+pub mod Once

@@ -1,0 +1,4 @@
+pub mod Steps
+pub mod StepLaws
+pub mod RunsLaws
+pub mod Once

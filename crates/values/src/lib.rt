@@ -1,0 +1,81 @@
+// What a test reads: a flip-flop's byte, or an input or Q as a bit of a word; and a bit put into a word.
+use meaning::Operand;
+ghost use mathlib.Core.Path.{_≡_};
+ghost use Prim.Native.Nat.{_-_};
+ghost use Rattle.meaning.specs.Literals.{inputOn};
+ghost use Rattle.meaning.specs.Scan.{flipFlopOn};
+ghost use Rattle.values.specs.Value.{bitOn, withBit, valueIn};
+
+// From a number that counts from 1.
+pub fn from_zero(n: u16) -> u16
+    ensures { λ r. ⌜ r ≡ n - 1 ⌝ }
+{
+    if n < 1 {
+        return 0;
+    }
+    n - 1
+}
+
+fn bit_on(w: u64, k: u16) -> bool
+    ensures { λ r. ⌜ r ≡ bitOn w k ⌝ }
+{
+    if 63 < k {
+        return false;
+    }
+    (w >> k) % 2 == 1
+}
+
+// The word with bit k as v; a bit past the 64th changes nothing.
+pub fn with_bit(w: u64, k: u16, v: bool) -> u64
+    ensures { λ r. ⌜ r ≡ withBit w k v ⌝ }
+{
+    if 63 < k {
+        return w;
+    }
+    let weight = 1u64 << k;
+    if bit_on(w, k) {
+        if v {
+            return w;
+        }
+        return w - weight;
+    }
+    if v {
+        return w + weight;
+    }
+    w
+}
+
+// "input i the bit of weight 2^(i-1)"
+fn is_on(w: u64, n: u16) -> bool
+    ensures { λ r. ⌜ r ≡ inputOn w n ⌝ }
+{
+    let i = from_zero(n);
+    bit_on(w, i)
+}
+
+fn flip_flop(ff: &[u8], n: u16) -> bool
+    ensures { λ r. ⌜ r ≡ flipFlopOn (now (ff .entry)) n ⌝ }
+{
+    let k = n as usize;
+    if k < ff.len() {
+        return ff[k] == 1;
+    }
+    false
+}
+
+// What a test reads.
+pub fn value(ff: &[u8], x: u64, qs: u64, o: Operand) -> bool
+    ensures { λ r. ⌜ r ≡ valueIn x qs (now (ff .entry)) o ⌝ }
+{
+    match o {
+        Operand::Mx(n) => flip_flop(ff, n),
+        Operand::Ix(n) => is_on(x, n),
+        Operand::Qx(_) => false,
+        Operand::TimerQ(n) => is_on(qs, n),
+        Operand::TimerIn(_) => false,
+        Operand::TimerPt(_) => false,
+        Operand::Timer(_) => false,
+        Operand::False => false,
+        Operand::True => true,
+    }
+}

@@ -1,0 +1,78 @@
+use Rattle.word_lines.specs.ByNumbers.{wordLine, lines-next}
+use Rattle.lines.specs.Fit.{Fit, fit-fit, fit-none}
+use borrow.Author.Needs.{needs}
+use lib.Seq.{take-length}
+use lib.ListN.{length, take}
+use native.Mathlib.Omega.{arith}
+use mathlib.Core.List.{flatMap}
+use mathlib.Core.Path.{_≡_}
+use Prim.Native.Nat.{_-_, _≤_}
+use Rattle.word_lines.proofs.put_words.Statement.{statement}
+use Rattle.word_lines.proofs.put_words.Tie as tie
+use Rattle.word_lines.proofs.put_words.Reads as reads
+use Rattle.word_lines.proofs.put_words.Lts as lts
+use Rattle.word_lines.proofs.put_word.Reads as put-word-reads
+
+abbrev Inv-loop : tie.InvT-loop
+Inv-loop out₀ at words i₀ p₀ out i p = (i ≤ length words) × Fit out₀ at (flatMap wordLine (take i words)) out p
+
+abbrev μ-loop : tie.MeasureT-loop
+μ-loop out₀ at words i₀ p₀ out i p = length words - i
+
+-- src/lib.rt:41:5
+loop-holds : tie.Need-loop-holds Inv-loop μ-loop
+unfolding flatMap
+loop-holds c = (omega arith, fit-none _ _ (omega arith) (omega arith))
+
+-- src/lib.rt:42:32
+mul-w : tie.Need-mul-w Inv-loop μ-loop
+mul-w c = search needs
+
+-- src/lib.rt:42:32
+shared-slice-read-w : tie.Need-shared-slice-read-w Inv-loop μ-loop
+shared-slice-read-w c = search needs
+
+-- src/lib.rt:43:9
+put-word-requires : tie.Need-put-word-requires Inv-loop μ-loop
+put-word-requires c κs = search needs
+
+-- src/lib.rt:44:9
+add-i : tie.Need-add-i Inv-loop μ-loop
+add-i c = search needs
+
+-- src/lib.rt:41:5
+loop-less : tie.Need-loop-less Inv-loop μ-loop
+loop-less c = search needs
+
+-- src/lib.rt:41:5
+loop-again : tie.Need-loop-again Inv-loop μ-loop
+loop-again c =
+    let l = c .before .before .before .before .before .before .before .before .before .args .words .now in
+    let i = c .before .before .before .before .before .before .loop .i in
+    (omega arith, rw (lines-next l i (c .before .before .before .before .before .loop-test .taken)) (fit-fit (c .before .before .before .before .before .before .loop .inv .1) (c .before .before .put-word .ensures)))
+
+-- src/lib.rt:36:1
+same-length : tie.Need-same-length Inv-loop μ-loop
+same-length c = c .before .loop .inv .1 .long
+
+-- src/lib.rt:36:1
+returns : tie.Need-returns Inv-loop μ-loop
+returns c =
+    let e : c .before .loop .i ≡ length (c .before .before .before .before .args .words .now) = omega arith in
+    rw (e, take-length) at (c .before .loop .inv .1)
+
+pub put-words-spec : {M : Type 1} → statement M
+put-words-spec =
+    tie.close
+    (tie.spec
+    Inv-loop
+    μ-loop
+    loop-holds
+    mul-w
+    shared-slice-read-w
+    put-word-requires
+    add-i
+    loop-less
+    loop-again
+    same-length
+    returns)

@@ -1,0 +1,3 @@
+pub mod AsRead
+pub mod Going
+pub mod Once
