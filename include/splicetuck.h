@@ -233,7 +233,8 @@ struct splicetuck_scan splicetuck_scan_program(
  * never has more words than bytes.
  * Writes the text to the front of text and its words to the front of words, and
  * for each scan the leaf that the flip-flops show to leaves and the output word
- * to words_out; length is the text's. */
+ * to words_out; length is the text's. How many words there are is told by
+ * splicetuck_read of that text. */
 struct splicetuck_answer splicetuck_run_written(
     uint32_t step, uint32_t inputs, uint32_t outputs,
     const uint16_t *states, size_t states_len,

@@ -18,7 +18,7 @@ use Rattle.meaning.specs.Literals.{between, kindOf, wanted, inputOn}
 use Rattle.meaning.specs.Check.{withinCounts, placePasses, literalPasses}
 use Rattle.meaning.specs.declared.Kind.{Kind}
 use Rattle.meaning.specs.declared.Kind.the-variants.{Unused, Input, Timer, Unknown}
-use Rattle.pairing.specs.WordsLaws.{zero-on}
+use Rattle.meaning.specs.BitLaws.{no-bit}
 use Rattle.asks.specs.Words.{asksFor, asked, Bits, Words, Asked, Adds, WordsAt, WordsTo, four}
 use Rattle.asks.specs.declared.Asks.{Asks}
 
@@ -85,7 +85,7 @@ timer-size t n = same-test (eqb (100 + t) (100 + n)) (eqb t n)
 module _ (c : Tables) (i k : ℕ) where
   pub none-asked : Words c i 0 0 0 0 0
   unfolding some
-  none-asked = record { on = λ n h g. zero-on n; off = λ n h g. zero-on n; expired = λ n h g. zero-on n; unexpired = λ n h g. zero-on n }
+  none-asked = record { on = λ n h g. no-bit n; off = λ n h g. no-bit n; expired = λ n h g. no-bit n; unexpired = λ n h g. no-bit n }
 
   more : (w v : ℕ) (b : Bool) (f : ℕ → ℕ) → Bits w (λ n. asked c i k b (f n)) → Bits v (λ n. inputOn w n || asksFor b (f n) (literal c i k)) → Bits v (λ n. asked c i (suc k) b (f n))
   more w v b f h g n p q = g n p q ∙ ap (λ t. t || asksFor b (f n) (literal c i k)) (h n p q) ∙ sym (some-more (λ j. asksFor b (f n) (literal c i j)) k)

@@ -10,10 +10,10 @@ use lib.Seq.{getD-set-same, getD-set-other}
 use Rattle.meaning.specs.Tables.{Tables, stateCount, superState}
 use Rattle.meaning.specs.Hierarchy.{up, depth}
 use Rattle.meaning.specs.HierarchyLaws.{sub-state-tells}
-use Rattle.meaning.specs.Layout.{groupFirst, groupWidth, code}
+use Rattle.meaning.specs.Layout.{code}
 use Rattle.meaning.specs.LayoutLaws.{group-fits}
 use Rattle.meaning.specs.Rules.{SubState, Rules}
-use Rattle.meaning.specs.TreeLaws.{super-lt, shallow, depth-sub, depth-root, depth-up, up-le}
+use Rattle.meaning.specs.TreeLaws.{super-lt, depth-sub, depth-root, depth-up, up-le}
 use Rattle.meaning.specs.TestLaws.{sub-of-super}
 use Rattle.meaning.specs.Written.{bitsFrom, groupBits}
 use Rattle.layout.specs.Laid.{LaidOut}

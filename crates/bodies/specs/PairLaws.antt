@@ -1,6 +1,6 @@
 -- Laws of Pairs.antt: in an ascending table the rows for n stand together.
-use mathlib.Core.Path.{_≡_, refl, sym, ap, ap₂, _∙_}
-use mathlib.Core.Logic.{_≢_, _⊎_, inl, inr, ⊎-elim}
+use mathlib.Core.Path.{_≡_, refl, ap, ap₂, _∙_}
+use mathlib.Core.Logic.{_≢_, _⊎_, ⊎-elim}
 use mathlib.Core.Bool.{cond}
 use mathlib.Core.List.{List, [], _∷_, _++_, map, flatMap, append-nil}
 use Prim.Native.Nat.{ℕ, zero, suc, _+_, _-_, _≤_, _<_}
@@ -10,10 +10,9 @@ use lib.Dec.{eqb}
 use borrow.Author.Tests.{eq-eqb, ne-eqb}
 use Rattle.meaning.specs.Rows.{table}
 use Rattle.meaning.specs.RowsLaws.{flatMap-append, rows-snoc}
-use Rattle.meaning.specs.Tables.{Tables, stateCount, pairCount, pairNumber, pairState}
-use Rattle.meaning.specs.Programs.{Test, Part, also, bracket, loadOf, andOf, chainOf, partOf, bodyOf}
+use Rattle.meaning.specs.Tables.{Tables, pairCount, pairNumber, pairState}
+use Rattle.meaning.specs.Programs.{Test, also, bracket, loadOf, andOf, chainOf, partOf, bodyOf}
 use Rattle.meaning.specs.Written.{stateTests, chain, orBody, andBody, pairStates, pairsBody}
-use Rattle.meaning.specs.declared.Operator.{Operator}
 use Rattle.bodies.specs.Pairs.{Known, bracketOf, brackets, orOf, Run, Pairs, Reaches}
 
 -- ---- bodies

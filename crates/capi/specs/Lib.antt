@@ -1,3 +1,3 @@
-pub mod Answers
 pub mod Files
+pub mod Lengths
 pub mod Once

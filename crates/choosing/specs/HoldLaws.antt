@@ -14,8 +14,8 @@ use Rattle.meaning.specs.Literals.{kindOf, wanted, inputOn, holdsAs, holds, lit
 use Rattle.meaning.specs.Check.{withinCounts}
 use Rattle.meaning.specs.declared.Kind.{Kind}
 use Rattle.meaning.specs.declared.Kind.the-variants.{Unused, Input, Timer, Unknown}
-use Rattle.pairing.specs.WordsLaws.{and-on, zero-on, same-bits}
-use Rattle.paths.specs.WordsLaws.{none, other-bit}
+use Rattle.meaning.specs.BitLaws.{and-bit, no-bit, other-bit, same-bits}
+use Rattle.paths.specs.WordsLaws.{none}
 use Rattle.asks.specs.Words.{asksFor, asked, Words}
 use Rattle.asks.specs.WordsLaws.{size-as, same-sign, own-sign}
 use Rattle.choosing.specs.Choice.{read, other, holding}
@@ -23,13 +23,13 @@ use Rattle.choosing.specs.Choice.{read, other, holding}
 -- ---- words with no bit in common
 
 none-intro : (x w : ℕ) → x < 2 ^ 64 → ((n : ℕ) → 1 ≤ n → n ≤ 64 → inputOn x n ≡ true → inputOn w n ≡ false) → none x w ≡ true
-none-intro x w h f = eq-eqb (bitAnd x w) 0 (same-bits 64 (bitAnd x w) 0 (omega (arith, and-le-l x w)) (omega arith) (λ n a b. and-on x w n ∙ bit n a b ∙ sym (zero-on n)))
+none-intro x w h f = eq-eqb (bitAnd x w) 0 (same-bits 64 (bitAnd x w) 0 (omega (arith, and-le-l x w)) (omega arith) (λ n a. and-bit x w (suc n) ∙ bit (suc n) (omega arith) (omega arith) ∙ sym (no-bit (suc n))))
   where
     bit : (n : ℕ) → 1 ≤ n → n ≤ 64 → (inputOn x n && inputOn w n) ≡ false
     bit n a b = elim (which (inputOn x n)) [ inl e ↦ rw e (f n a b e) | inr e ↦ rw e ]
 
 none-elim : (x w n : ℕ) → none x w ≡ true → inputOn w n ≡ true → inputOn x n ≡ false
-none-elim x w n h e = false-by (inputOn x n) (λ f. true≢false (sym (and-both (inputOn x n) (inputOn w n) f e) ∙ sym (and-on x w n) ∙ ap (λ v. inputOn v n) (eqb-true (bitAnd x w) 0 h) ∙ zero-on n))
+none-elim x w n h e = false-by (inputOn x n) (λ f. true≢false (sym (and-both (inputOn x n) (inputOn w n) f e) ∙ sym (and-bit x w n) ∙ ap (λ v. inputOn v n) (eqb-true (bitAnd x w) 0 h) ∙ no-bit n))
 
 -- the bits the other way round
 other-on : (x n : ℕ) → x < 2 ^ 64 → 1 ≤ n → n ≤ 64 → inputOn (other x) n ≡ not (inputOn x n)

@@ -12,12 +12,6 @@ ghost use Rattle.asks.specs.Words.{Asked};
 
 // ---- once for all scans
 
-fn wide(n: u16) -> usize
-    ensures { λ r. ⌜ (r ≡ n) × (r < 65536) ⌝ }
-{
-    n as usize
-}
-
 fn asks_of(moves: &[i16], i: usize) -> Asks
     ensures { λ r. ⌜ ((c : Tables) → c .moves ≡ now (moves .entry) → Rules c → i < moveCount c → Asked c i 8 r) ⌝ }
 {
@@ -103,26 +97,17 @@ fn hold(asks: &[u64], i: usize, x: u64, y: u64) -> bool
     y & asks[at + 3] == 0
 }
 
-fn link_at(links: &[u16], n: usize) -> usize
-    ensures { λ r. ⌜ (r ≡ getD (now (links .entry)) n 0) × (r < 65536) ⌝ }
-{
-    if links.len() <= n {
-        return 0;
-    }
-    wide(links[n])
-}
-
 // The move from state s whose literals hold, counted from 1; 0 if there is none.
 fn chosen_from(links: &[u16], asks: &[u64], s: usize, x: u64, y: u64) -> usize
     ensures { λ r. ⌜ ((c : Tables) → Rules c → LinkedTo c (moveCount c) (now (links .entry)) → AskedTo c (moveCount c) (now (asks .entry)) → moveCount c ≤ length (now (asks .entry)) / 4 → s < 256
         → r ≡ lastHolding c (read x y) s (moveCount c)) ⌝ }
 {
-    let mut j = link_at(links, s);
+    let mut j = slices::number(links, s) as usize;
     while 0 < j {
         if hold(asks, j - 1, x, y) {
             return j;
         }
-        let next = link_at(links, 255 + j);
+        let next = slices::number(links, 255 + j) as usize;
         if j <= next {
             return 0;
         }

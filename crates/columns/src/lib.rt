@@ -2,7 +2,6 @@
 ghost use mathlib.Core.Path.{_≡_};
 ghost use mathlib.Core.List.{map};
 ghost use Prim.Native.Nat.{_*_, min};
-ghost use lib.ListN.{set};
 ghost use lib.Seq.{sets};
 ghost use Rattle.ended.specs.Decimals.{signedOf};
 ghost use Rattle.columns.specs.Low.{low16, low32};
@@ -20,37 +19,13 @@ pub fn low_32(x: u64) -> u32
     (x % 4294967296) as u32
 }
 
-fn store_16(to: &mut [u16], at: usize, v: u16)
-    ensures { λ _. ⌜ now (to .exit) ≡ set (now (to .entry)) at v ⌝ }
-{
-    if at < to.len() {
-        to[at] = v;
-    }
-}
-
-fn store_32(to: &mut [u32], at: usize, v: u32)
-    ensures { λ _. ⌜ now (to .exit) ≡ set (now (to .entry)) at v ⌝ }
-{
-    if at < to.len() {
-        to[at] = v;
-    }
-}
-
-fn store_signed(to: &mut [i16], at: usize, v: i16)
-    ensures { λ _. ⌜ now (to .exit) ≡ set (now (to .entry)) at v ⌝ }
-{
-    if at < to.len() {
-        to[at] = v;
-    }
-}
-
 // states.csv, timerpairs.csv, outputpairs.csv
 pub fn narrow_16(from: &[u64], to: &mut [u16])
     ensures { λ _. ⌜ now (to .exit) ≡ sets (now (to .entry)) 0 (map low16 (now (from .entry))) ⌝ }
 {
     let mut i = 0;
     while i < from.len() {
-        store_16(to, i, low_16(from[i]));
+        slices::put_number(to, i, low_16(from[i]));
         i += 1;
     }
 }
@@ -61,7 +36,7 @@ pub fn narrow_32(from: &[u64], to: &mut [u32])
 {
     let mut i = 0;
     while i < from.len() {
-        store_32(to, i, low_32(from[i]));
+        slices::put_value(to, i, low_32(from[i]));
         i += 1;
     }
 }
@@ -72,7 +47,7 @@ pub fn narrow_signed(from: &[u64], to: &mut [i16])
 {
     let mut i = 0;
     while i < from.len() {
-        store_signed(to, i, ended::signed(from[i]));
+        slices::put_signed(to, i, ended::signed(from[i]));
         i += 1;
     }
 }
@@ -81,7 +56,7 @@ pub fn narrow_signed(from: &[u64], to: &mut [i16])
 pub fn ones(rows: usize, room: usize) -> usize
     ensures { λ r. ⌜ r ≡ min rows room ⌝ }
 {
-    lengths::shorter(rows, room)
+    slices::shorter(rows, room)
 }
 
 // How many numbers so many rows of two have, as far as there is room.
@@ -91,7 +66,7 @@ pub fn twos(rows: usize, room: usize) -> usize
     if room / 2 < rows {
         return room;
     }
-    lengths::shorter(2 * rows, room)
+    slices::shorter(2 * rows, room)
 }
 
 // How many numbers so many rows of eleven have, as far as there is room.
@@ -101,5 +76,5 @@ pub fn elevens(rows: usize, room: usize) -> usize
     if room / 11 < rows {
         return room;
     }
-    lengths::shorter(11 * rows, room)
+    slices::shorter(11 * rows, room)
 }

@@ -4,10 +4,10 @@ use mathlib.Core.Logic.{_⊎_, inl, inr}
 use Prim.Native.Nat.{ℕ, _-_, _≤_, _<_}
 use native.Mathlib.Omega.{arith}
 use native.Mathlib.Decide.{decLe}
-use mathlib.Core.Bool.{Bool, true, false, _||_, cond, or-false, false≢true}
+use mathlib.Core.Bool.{true, false, cond, or-false, false≢true}
 use lib.Dec.{eqb}
 use borrow.Author.Tests.{leb-true, le-leb, lt-leb, ne-eqb}
-use Rattle.meaning.specs.RowsLaws.{which}
+use Rattle.meaning.specs.RowsLaws.{which, or-l, or-cases}
 use Rattle.meaning.specs.Programs.{testable, constant, flipFlopFits, outputFits}
 use Rattle.meaning.specs.declared.Operand.{Operand}
 use Rattle.meaning.specs.declared.Operand.the-variants.{Mx, Ix, Qx, TimerQ, TimerIn, TimerPt, Timer, False, True}
@@ -70,26 +70,22 @@ pub unknown : (k m : ℕ) (i : Operator) → unpacked k m ≡ kept i → (instru
 unfolding kept
 unknown k m i e h = elim (which (instruction i)) [ inl f ↦ absurd (h f) | inr f ↦ sym (e ∙ rw f) ]
 
+-- operator k is f of the operand
+abbrev pub Unpacks : ℕ → (Operand → Operator) → Type 0
+Unpacks k f = (m : ℕ) → unpacked k m ≡ kept (f (operandOf m))
+
 -- ---- LD, LDN, AND, ANDN
 
 -- operator k is the test f
 pub record Tests (k : ℕ) (f : Operand → Operator) : Type 0 where
-  pub unpacks : (m : ℕ) → unpacked k m ≡ kept (f (operandOf m))
+  pub unpacks : Unpacks k f
   pub fits : (o : Operand) → testable 32 o ≡ true → instruction (f o) ≡ true
   -- TRUE and FALSE after LD (1) only
   pub only : (o : Operand) → instruction (f o) ≡ true → (testable 32 o ≡ true) ⊎ ((k ≡ 1) × (constant o ≡ true))
 
-ld-fits : (a b : Bool) → a ≡ true → (a || b) ≡ true
-ld-fits true b e = refl
-ld-fits false b e = no e
-
-ld-only : (a b : Bool) → (a || b) ≡ true → (a ≡ true) ⊎ (b ≡ true)
-ld-only true b e = inl refl
-ld-only false b e = inr e
-
 pub ld : Tests 1 Ld
 unfolding unpacked instruction
-ld = record { unpacks = λ m. refl; fits = λ o e. ld-fits (testable 32 o) (constant o) e; only = λ o e. elim (ld-only (testable 32 o) (constant o) e) [ inl a ↦ inl a | inr b ↦ inr (refl, b) ] }
+ld = record { unpacks = λ m. refl; fits = λ o e. or-l (testable 32 o) (constant o) e; only = λ o e. elim (or-cases (testable 32 o) (constant o) e) [ inl a ↦ inl a | inr b ↦ inr (refl, b) ] }
 
 pub ldn : Tests 2 Ldn
 unfolding unpacked instruction
@@ -189,7 +185,7 @@ flip-flop-in m =
 
 -- operator k is S or R
 pub record Acts (k : ℕ) (f : Operand → Operator) : Type 0 where
-  pub unpacks : (m : ℕ) → unpacked k m ≡ kept (f (operandOf m))
+  pub unpacks : Unpacks k f
   pub fits : (o : Operand) → instruction (f o) ≡ flipFlopFits o
 
 pub s : Acts 8 S

@@ -3,7 +3,7 @@ use mathlib.Core.Path.{_≡_, refl, ap}
 use Prim.Native.Nat.{ℕ, zero, suc}
 use native.Mathlib.Omega.{arith}
 use mathlib.Core.Bool.{true, false≢true}
-use lib.IntN.{ℤ, pos, negsuc, _-ℤ_}
+use lib.IntN.{pos, negsuc, _-ℤ_}
 use Rattle.field.specs.declared.Phase.{Phase}
 use Rattle.field.specs.declared.Phase.the-variants.{Fresh, Empty, Quote, Minus, Number, Closed, Return, Bad}
 use Rattle.field.specs.Field.{begun, phaseAfter}

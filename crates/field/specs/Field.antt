@@ -3,12 +3,9 @@ use Prim.Native.Nat.{ℕ, _+_, _*_, _-_}
 use mathlib.Core.Bool.{Bool, true, false, _&&_, cond}
 use lib.Dec.{leb, eqb}
 use Rattle.meaning.specs.Literals.{between}
+pub use Rattle.meaning.specs.Top.{top}
 use Rattle.field.specs.declared.Phase.{Phase}
 use Rattle.field.specs.declared.Phase.the-variants.{Fresh, Empty, Quote, Minus, Number, Closed, Return, Bad}
-
--- the largest number of 64 bits
-abbrev pub top : ℕ
-top = 18446744073709551615
 
 -- a number with one digit more
 unfoldable pub grown : ℕ → Bool → Bool → ℕ → ℕ → Phase

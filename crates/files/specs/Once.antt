@@ -4,7 +4,6 @@ use mathlib.Core.List.{List}
 use Prim.Native.Nat.{ℕ}
 use Rattle.meaning.specs.Once.{Once, is-once}
 use Rattle.files.specs.declared.Answers.{Answers}
-use Rattle.files.specs.declared.Counts.{Counts}
 use Rattle.files.specs.Told.{fieldVerdict, Counted, chartFrom, one-count}
 
 pub fields-pass-once : (a : Answers) → Once (λ v. v ≡ fieldVerdict a)

@@ -1,6 +1,7 @@
 pub mod Words
 pub mod Text
 pub mod Places
+pub mod TextWritten
 pub mod Records
 pub mod Printed
 pub mod Compute

@@ -79,7 +79,7 @@ opened s = moved (at Body s) (to Opened s) s
 unfoldable pub closed : Reading → Reading
 closed s = moved (at Inside s) (to Body s) s
 
--- "the first ST, S or R on %MX or %QX ends the timer rungs: it is the impossible word if an earlier body named a block not declared by then"
+-- the first ST, S or R on %MX or %QX ends the timer rungs; no accepted list has it if an earlier body named a block not declared by then
 unfoldable pub store : Reading → Reading
 store s = moved ((at Body s || at Stored s) && leb (s .named) (s .timers)) (settled s) s
 

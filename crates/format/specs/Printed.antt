@@ -1,10 +1,10 @@
 -- What the program prints, as a function of the bytes of its seven files.
-use Prim.Native.Nat.{ℕ, zero, suc, _+_, _^_, max}
-use mathlib.Core.Bool.{Bool, true, false, _&&_}
+use Prim.Native.Nat.{ℕ, suc, _+_, max}
+use mathlib.Core.Bool.{true, false, _&&_}
 use mathlib.Core.List.{List, [], _∷_, _++_, map}
 use lib.ListN.{length, getD}
 use lib.Dec.{leb, ltb, eqb}
-use lib.IntN.{ℤ, pos, natAbs}
+use lib.IntN.{natAbs}
 use Rattle.meaning.specs.Refusals.{numberOf, placeOf}
 use Rattle.meaning.specs.Tables.{Tables, stateRow, moveRow, pairRow}
 use Rattle.meaning.specs.Check.{Check, checks, verdictOf}
@@ -92,12 +92,13 @@ tables f = record {
 unfoldable pub chartText : Tables → List ℕ
 chartText c = text (program c)
 
--- "A text above 65,536 bytes is ROOM here."
-unfoldable pub roomCheck : Tables → Check
-roomCheck c = record { refusal = λ p. R.Room (room (length (chartText c))); rows = 1; passes = λ i. leb (length (chartText c)) mostText }
+-- 12 ROOM: "result slice too short", with the text's length, where there is room for n bytes
+unfoldable pub roomCheck : Tables → ℕ → Check
+roomCheck c n = record { refusal = λ p. R.Room (room (length (chartText c))); rows = 1; passes = λ i. leb (length (chartText c)) n }
 
+-- "A text above 65,536 bytes is ROOM here."
 unfoldable pub printedVerdict : Files → Verdict
-printedVerdict f = verdictOf (fieldChecks f ++ (checks (tables f) ++ (roomCheck (tables f) ∷ [])))
+printedVerdict f = verdictOf (fieldChecks f ++ (checks (tables f) ++ (roomCheck (tables f) mostText ∷ [])))
 
 unfoldable pub comma : List ℕ → List ℕ → List ℕ
 comma a b = a ++ (44 ∷ b)

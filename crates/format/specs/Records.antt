@@ -1,10 +1,10 @@
 -- Records of RFC 4180, where "LF alone also ends a record", and the decimals in them.
-use Prim.Native.Nat.{ℕ, zero, suc, _+_, _*_, _-_, _^_}
-use mathlib.Core.Bool.{Bool, true, false, _&&_, _||_, not, cond}
+use Prim.Native.Nat.{ℕ, _+_, _*_, _-_, _^_}
+use mathlib.Core.Bool.{Bool, true, false, _&&_, cond}
 use mathlib.Core.List.{List, [], _∷_, map, flatMap}
 use lib.ListN.{length, getD, take, drop}
-use lib.Dec.{leb, ltb, eqb}
-use lib.IntN.{ℤ, pos, negsuc, negℤ}
+use lib.Dec.{leb, eqb}
+use lib.IntN.{ℤ, pos, negℤ}
 use Rattle.meaning.specs.Programs.{all}
 use Rattle.meaning.specs.Literals.{between}
 use Rattle.format.specs.Text.{decimal}

@@ -1,16 +1,16 @@
 -- The reader of words tells which lists are accepted, which go on, and where the others go wrong.
 use mathlib.Core.Path.{_≡_, refl, sym, ap, ap₂, _∙_}
-use mathlib.Core.Logic.{inl, inr, _↔_}
+use mathlib.Core.Logic.{_↔_}
 use Prim.Native.Nat.{ℕ, suc, _≤_, _<_}
 use native.Mathlib.Omega.{arith}
 use native.Mathlib.Decide.{decLe}
-use mathlib.Core.Bool.{true, false, _&&_, cond, true≢false, false≢true}
+use mathlib.Core.Bool.{true, false, _&&_, true≢false, false≢true}
 use mathlib.Core.List.{List, [], _∷_, _++_, map}
 use lib.ListN.{length, getD, take, drop, take-append-drop}
 use lib.Seq.{take-take, take-suc, take-length}
 use lib.Dec.{leb}
 use borrow.Author.Tests.{leb-true}
-use Rattle.meaning.specs.RowsLaws.{which, and-l, and-r, and-both, false-by}
+use Rattle.meaning.specs.RowsLaws.{and-l, and-r, and-both, false-by}
 use Rattle.meaning.specs.Tables.{mostTimers}
 use Rattle.meaning.specs.Programs.{Program, instructions, all, timerRungFits, fits}
 use Rattle.meaning.specs.declared.Operator.{Operator}
@@ -21,7 +21,7 @@ use Rattle.format.specs.Words.{word, words, AcceptedWords}
 use Rattle.format.specs.Places.{Continues, Place, WordPlace}
 use Rattle.format.specs.Decode.{instruction, decoded}
 use Rattle.format.specs.DecodeLaws.{decode-word, word-decode, word-same}
-use Rattle.format.specs.Phases.{begin, beginWords, step, after, alive, mayEnd, stepWord, afterWords}
+use Rattle.format.specs.Phases.{beginWords, step, after, alive, mayEnd, stepWord, afterWords}
 use Rattle.format.specs.Moves.{step-moves}
 use Rattle.format.specs.Passing.{Accepts, program-accepted, program-instructions}
 use Rattle.format.specs.Continuing.{moves-from, begin-sound, after-sound, can-end}

@@ -1,5 +1,11 @@
 // Words, texts, records and what the program prints: definitions, in specs/. Here the declared types that they speak of.
 
+// What a writer of text answers: how many bytes it wrote, from the front, or why it wrote none.
+pub enum Written {
+    Wrote(usize),
+    Refused(meaning::Refusal),
+}
+
 // What a word stands for.
 pub enum Decoded {
     Known(meaning::Operator),

@@ -1,49 +1,45 @@
 -- IDLE TIMER by words: which timers all leaves at or below a state run.
 use mathlib.Core.Path.{_≡_, refl, sym, ap, _∙_}
-use mathlib.Core.Logic.{_⊎_, inl, inr}
-use Prim.Native.Nat.{ℕ, zero, suc, _+_, _-_, _/_, _%_, _^_, _<_, _≤_}
+use mathlib.Core.Logic.{inl, inr}
+use Prim.Native.Nat.{ℕ, suc, _+_, _-_, _^_, _<_, _≤_}
 use native.Mathlib.Omega.{arith}
 use native.Mathlib.Decide.{ℕ-discrete, decLe}
-use mathlib.Core.Bool.{Bool, true, false, not, _&&_, _||_, Bool·beq, false≢true}
+use mathlib.Core.Bool.{Bool, true, false, not, _&&_, _||_, or-false, false≢true}
 use mathlib.Core.List.{List}
 use lib.ListN.{length, getD, set}
 use lib.Seq.{getD-set-same, getD-set-other}
 use lib.Bits.{bitAnd, bitOr, and-le-l, or-lt}
-use lib.Pow.{pow-lt, ones-split, ones-lt, high}
 use lib.Dec.{eqb}
 use lib.IntN.{natAbs}
 use borrow.Author.Tests.{eq-eqb, ne-eqb, eqb-true}
 use Rattle.meaning.specs.Rows.{some, every}
-use Rattle.meaning.specs.RowsLaws.{and-l, and-r, and-both, or-l, or-r, or-cases, same-test, some-yes, some-intro, some-none, every-yes, every-intro}
-use Rattle.meaning.specs.Tables.{Tables, mostDepth, mostStates, mostMoves, literalPlaces, stateCount, moveCount, superState, source, literal}
+use Rattle.meaning.specs.RowsLaws.{and-l, and-r, and-both, or-l, or-r, or-cases, same-test, some-yes, some-intro, every-yes, every-intro}
+use Rattle.meaning.specs.BitLaws.{or-bit, and-bit, no-bit, other-bit, same-bits}
+use Rattle.meaning.specs.Tables.{Tables, mostDepth, mostMoves, literalPlaces, stateCount, moveCount, superState, source, literal}
 use Rattle.meaning.specs.Hierarchy.{up, atOrAbove, leaf, runs}
 use Rattle.meaning.specs.HierarchyLaws.{up-add}
 use Rattle.meaning.specs.Literals.{kindOf, wanted, inputOn}
 use Rattle.meaning.specs.Check.{withinCounts, initialPasses, literalPasses, runsBelow}
-use Rattle.meaning.specs.Rules.{HierarchyRule, MoveRule}
+use Rattle.meaning.specs.Rules.{MoveRule}
 use Rattle.meaning.specs.declared.Kind.{Kind}
 use Rattle.meaning.specs.declared.Kind.the-variants.{Unused, Input, Timer, Unknown}
 use Rattle.tree.specs.Falling.{Falling}
-use Rattle.pairing.specs.Words.{Tree, PairedWords}
-use Rattle.pairing.specs.WordsLaws.{or-on, and-on, same-bits, root-stays}
+use Rattle.pairing.specs.Words.{Tree, Worded}
+use Rattle.pairing.specs.WordsLaws.{root-stays}
 use Rattle.asks.specs.Words.{asksFor, asked, Words}
-use Rattle.asks.specs.WordsLaws.{size-as, known}
+use Rattle.asks.specs.WordsLaws.{size-as, known, own-sign}
 
 -- what the later checks know from the earlier ones
 pub record Sound (c : Tables) : Type 0 where
   pub initials : (s : ℕ) → s < stateCount c → initialPasses c s ≡ true
-  pub hierarchy : (s : ℕ) → s < stateCount c → HierarchyRule c s
+  pub tree : Tree c
   pub falling : Falling c
-  pub few : stateCount c ≤ mostStates
   pub fewMoves : moveCount c ≤ mostMoves
-
-pub tree : (c : Tables) → Sound c → Tree c
-tree c s = record { few = s .few; hierarchy = s .hierarchy }
 
 -- that, and the words of the timers that run at each state
 pub record Ready (c : Tables) (ss rs : List ℕ) : Type 0 where
   pub states : c .states ≡ ss
-  pub running : PairedWords c (c .timerPairs) rs
+  pub running : Worded c (c .timerPairs) rs
   pub sound : Sound c
 
 -- l is no leaf at or below x, or runs n
@@ -70,15 +66,7 @@ Full ws = (l : ℕ) → l < length ws → getD ws l 0 ≡ 18446744073709551615
 
 -- every bit of the largest word is on
 pub full-on : (n : ℕ) → 1 ≤ n → n ≤ 64 → inputOn 18446744073709551615 n ≡ true
-unfolding inputOn
-full-on n h k =
-    let z : 64 ≡ suc (64 - n) + (n - 1) = omega arith in
-    let e : 18446744073709551615 ≡ 2 ^ (suc (64 - n) + (n - 1)) - 1 = ap (λ x. 2 ^ x - 1) z in
-    let f : 18446744073709551615 / 2 ^ (n - 1) ≡ 2 ^ suc (64 - n) - 1 =
-    ap (λ x. x / 2 ^ (n - 1)) (e ∙ ones-split (suc (64 - n)) (n - 1)) ∙ high (2 ^ suc (64 - n) - 1) (n - 1) (ones-lt (n - 1)) in
-    let p = pow-lt {i = 0} {j = suc (64 - n)} (omega arith) in
-    let g : (2 ^ suc (64 - n) - 1) % 2 ≡ 1 = omega (arith, p) in
-    ap (λ x. eqb (x % 2) 1) f ∙ ap (λ x. eqb x 1) g
+full-on n h k = let e : n ≡ suc (n - 1) = omega arith in rw e (other-bit 64 0 (n - 1) (omega arith) (omega arith) ∙ ap not (no-bit (suc (n - 1))))
 
 pub every-more : (p : ℕ → Bool) (n : ℕ) → every p 0 (suc n) ≡ (every p 0 n && p n)
 every-more p n = same-test (every p 0 (suc n)) (every p 0 n && p n)
@@ -93,8 +81,8 @@ every-more p n = same-test (every p 0 (suc n)) (every p 0 n && p n)
 -- all that is asked is run below: no literal asks for another timer
 module _ (c : Tables) (i x p q r s b : ℕ) (w : Words c i literalPlaces p q r s) (l : literalPasses c i ≡ true) (below : (t : ℕ) → 1 ≤ t → t ≤ 64 → inputOn b t ≡ runsBelow c x (Timer t)) where
   asked-by : (z : Bool) (t : ℕ) → 1 ≤ t → t ≤ 64 → asked c i literalPlaces z (100 + t) ≡ true → inputOn (bitOr r s) t ≡ true
-  asked-by true t h k e = or-on r s t ∙ or-l (inputOn r t) (inputOn s t) (w .expired t h k ∙ e)
-  asked-by false t h k e = or-on r s t ∙ or-r (inputOn r t) (inputOn s t) (w .unexpired t h k ∙ e)
+  asked-by true t h k e = or-bit r s t ∙ or-l (inputOn r t) (inputOn s t) (w .expired t h k ∙ e)
+  asked-by false t h k e = or-bit r s t ∙ or-r (inputOn r t) (inputOn s t) (w .unexpired t h k ∙ e)
 
   there : bitAnd (bitOr r s) b ≡ bitOr r s → (j : ℕ) → j < literalPlaces → runsBelow c x (kindOf (natAbs (literal c i j))) ≡ true
   unfolding runsBelow
@@ -106,14 +94,10 @@ module _ (c : Tables) (i x p q r s b : ℕ) (w : Words c i literalPlaces p q r s
       z : Bool
       z = wanted (literal c i j)
 
-      own-sign : (y : Bool) → Bool·beq y y ≡ true
-      own-sign true = refl
-      own-sign false = refl
-
       timer : (t : ℕ) → n ≡ 100 + t → 1 ≤ t → t ≤ 64 → runsBelow c x (Timer t) ≡ true
       timer t f p q =
           let d = asked-by z t p q (some-intro (λ k. asksFor z (100 + t) (literal c i k)) 0 literalPlaces j (omega arith) (omega arith) (and-both _ _ (eq-eqb n (100 + t) f) (own-sign z))) in
-          sym (below t p q) ∙ and-r (inputOn (bitOr r s) t) (inputOn b t) (sym (and-on (bitOr r s) b t) ∙ ap (λ y. inputOn y t) e ∙ d)
+          sym (below t p q) ∙ and-r (inputOn (bitOr r s) t) (inputOn b t) (sym (and-bit (bitOr r s) b t) ∙ ap (λ y. inputOn y t) e ∙ d)
 
       go : (K : Kind) → kindOf n ≡ K → runsBelow c x (kindOf n) ≡ true
       go Unused f = rw f
@@ -123,7 +107,7 @@ module _ (c : Tables) (i x p q r s b : ℕ) (w : Words c i literalPlaces p q r s
 
   back : ((j : ℕ) → j < literalPlaces → runsBelow c x (kindOf (natAbs (literal c i j))) ≡ true) → (t : ℕ) → 1 ≤ t → t ≤ 64 → inputOn (bitOr r s) t ≡ true → inputOn b t ≡ true
   unfolding withinCounts
-  back f t h k e = elim (or-cases (inputOn r t) (inputOn s t) (sym (or-on r s t) ∙ e)) [
+  back f t h k e = elim (or-cases (inputOn r t) (inputOn s t) (sym (or-bit r s t) ∙ e)) [
     | inl d ↦ of true (sym (w .expired t h k) ∙ d)
     | inr d ↦ of false (sym (w .unexpired t h k) ∙ d)
   ]
@@ -152,7 +136,7 @@ module _ (c : Tables) (i x p q r s b : ℕ) (w : Words c i literalPlaces p q r s
       (λ e. let f = back (every-yes (λ j. runsBelow c x (kindOf (natAbs (literal c i j)))) literalPlaces e) in
       let small = or-lt 64 r s hr hs in
       eq-eqb (bitAnd (bitOr r s) b) (bitOr r s) (same-bits 64 (bitAnd (bitOr r s) b) (bitOr r s) (omega (arith, and-le-l (bitOr r s) b)) small
-      (λ n h k. and-on (bitOr r s) b n ∙ same-test (inputOn (bitOr r s) n && inputOn b n) (inputOn (bitOr r s) n) (and-l _ _) (λ d. and-both _ _ d (f n h k d)))))
+      (λ n h. and-bit (bitOr r s) b (suc n) ∙ same-test (inputOn (bitOr r s) (suc n) && inputOn b (suc n)) (inputOn (bitOr r s) (suc n)) (and-l _ _) (λ d. and-both _ _ d (f (suc n) (omega arith) (omega arith) d)))))
 
 -- ---- a leaf narrows the words of the states above it
 
@@ -166,14 +150,10 @@ pub narrow-more : (ws : List ℕ) (s x w n : ℕ) (a p : Bool) → x < length ws
     → inputOn (getD (set ws s (bitAnd (getD ws s 0) w)) x 0) n ≡ (a && (not (p || eqb s x) || inputOn w n))
 narrow-more ws s x w n a p h e = elim (ℕ-discrete x s) [
   | yes z ↦ rw (z, eq-eqb s s refl, getD-set-same ws s (bitAnd (getD ws s 0) w) 0 (rw (sym z) h))
-      (and-on (getD ws s 0) w n ∙ ap (λ b. b && inputOn w n) (rw z at e) ∙ twice a p (inputOn w n))
-  | no z ↦ rw (ne-eqb s x (λ q. z (sym q)), getD-set-other ws s x (bitAnd (getD ws s 0) w) 0 z) (e ∙ ap (λ b. a && (not b || inputOn w n)) (or-no p))
+      (and-bit (getD ws s 0) w n ∙ ap (λ b. b && inputOn w n) (rw z at e) ∙ twice a p (inputOn w n))
+  | no z ↦ rw (ne-eqb s x (λ q. z (sym q)), getD-set-other ws s x (bitAnd (getD ws s 0) w) 0 z) (e ∙ ap (λ b. a && (not b || inputOn w n)) (sym (or-false p)))
 ]
   where
-    or-no : (b : Bool) → b ≡ (b || false)
-    or-no true = refl
-    or-no false = refl
-
     twice : (b q v : Bool) → ((b && (not q || v)) && v) ≡ (b && (not (q || true) || v))
     twice true true true = refl
     twice true true false = refl
@@ -189,9 +169,9 @@ narrow-not c false n x l e = refl
 pub narrow-leaf : (c : Tables) (n x l : ℕ) (a w : Bool) → leaf c l ≡ true → w ≡ runs c n l → (a && (not (atOrAbove c x l) || w)) ≡ (a && leafRuns c n x l)
 narrow-leaf c n x l a w e f = rw (e, f)
 
-pub running-at : (c : Tables) (rs : List ℕ) (n l : ℕ) → PairedWords c (c .timerPairs) rs → 1 ≤ n → n ≤ 64 → l < stateCount c → inputOn (getD rs l 0) n ≡ runs c n l
+pub running-at : (c : Tables) (rs : List ℕ) (n l : ℕ) → Worded c (c .timerPairs) rs → 1 ≤ n → n ≤ 64 → l < stateCount c → inputOn (getD rs l 0) n ≡ runs c n l
 unfolding runs
-running-at c rs n l r p q h = r n l p q h
+running-at c rs n l r p q h = let e : n ≡ suc (n - 1) = omega arith in rw e (r l (n - 1) h (omega arith))
 
 -- from the root on the way up stays there
 pub up-to-root : (c : Tables) (l x k : ℕ) → superState c 0 ≡ 0 → k ≤ mostDepth → up c k l ≡ 0 → some (λ j. eqb (up c j l) x) 0 (suc k) ≡ atOrAbove c x l

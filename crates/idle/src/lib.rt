@@ -39,15 +39,6 @@ fn narrow(states: &[u16], w: u64, l: usize, words: &mut [u64])
     }
 }
 
-fn word(words: &[u64], l: usize) -> u64
-    ensures { λ r. ⌜ r ≡ getD (now (words .entry)) l 0 ⌝ }
-{
-    if words.len() <= l {
-        return 0;
-    }
-    words[l]
-}
-
 // After the check of the initial sub-states a leaf is known by its 0.
 fn narrow_leaf(states: &[u16], running: &[u64], l: usize, words: &mut [u64])
     ensures long { λ r. ⌜ length (now (words .exit)) ≡ length (now (words .entry)) ⌝ }
@@ -57,7 +48,7 @@ fn narrow_leaf(states: &[u16], running: &[u64], l: usize, words: &mut [u64])
     if tables::initial(states, l) != 0 {
         return;
     }
-    narrow(states, word(running, l), l, words)
+    narrow(states, slices::word(running, l), l, words)
 }
 
 // Which timers all leaves at or below each state run, a word a state. It is made once, leaf by leaf, so that a move costs
@@ -83,5 +74,5 @@ pub fn idle_passes(moves: &[i16], asks: &[u64], below: &[u64], i: usize) -> bool
     }
     let at = 4 * i;
     let asked = asks[at + 2] | asks[at + 3];
-    asked & word(below, tables::source(moves, i)) == asked
+    asked & slices::word(below, tables::source(moves, i)) == asked
 }

@@ -1,22 +1,22 @@
 -- The scan with one value put aside does what the instructions of a program that fits do.
 use mathlib.Core.Path.{_≡_, refl, sym, ap, _∙_}
-use mathlib.Core.Logic.{_⊎_, inl, inr}
+use mathlib.Core.Logic.{inl, inr}
 use Prim.Native.Nat.{ℕ, zero, suc, _+_, _-_, _≤_, _<_, min}
 use native.Mathlib.Nat.{le-refl}
 use native.Mathlib.Omega.{arith}
 use native.Mathlib.Decide.{decLe}
 use mathlib.Core.Bool.{Bool, true, false, _&&_, _||_, not, cond, false≢true, true≢false}
 use mathlib.Core.List.{List, [], _∷_, _++_, map, flatMap, headD}
-use lib.ListN.{length, getD, set, drop, length-set, length-map, List·getD-map}
-use lib.Seq.{set-out, map-set-same}
-use lib.Dec.{leb, eqb, ltb}
+use lib.ListN.{length, getD, set, length-set, length-map, List·getD-map}
+use lib.Seq.{set-out}
+use lib.Dec.{leb}
 use borrow.Author.Tests.{lt-ltb, le-ltb}
 use Rattle.meaning.specs.RowsLaws.{which, and-l, and-r, and-both}
 use Rattle.meaning.specs.Tables.{mostTimers}
 use Rattle.meaning.specs.Literals.{inputOn}
 use Rattle.meaning.specs.Machine.{wordOf}
 use Rattle.meaning.specs.Programs.{Test, Chain, Part, also, bracket, Body, Rung, TimerRung, Program, loadOf, andOf, chainOf, partOf, bodyOf, rungOf, timerRungOf, timerRungsFrom, instructions, all, flipFlopFits, outputFits, bodyFits, storeFits, rungFits, timerRungFits, fits}
-use Rattle.meaning.specs.Scan.{Controller, Within, blank, blockAt, changed, ton, withIn, withPt, flipFlopOn, valueOf, withFlipFlops, withBlock, withOutputs, stored, called, withResult, executed, executedAll}
+use Rattle.meaning.specs.Scan.{Within, blank, blockAt, changed, ton, withIn, withPt, flipFlopOn, valueOf, withFlipFlops, withBlock, withOutputs, stored, called, withResult, executed, executedAll}
 use Rattle.meaning.specs.declared.Block.{Block}
 use Rattle.meaning.specs.declared.Operand.{Operand}
 use Rattle.meaning.specs.declared.Operand.the-variants.{Mx, Ix, Qx, TimerQ, TimerIn, TimerPt, Timer, False, True}
@@ -24,9 +24,7 @@ use Rattle.meaning.specs.declared.Operator.{Operator}
 use Rattle.meaning.specs.declared.Operator.the-variants.{Ld, Ldn, And, Andn, Or, Close, St, S, R, Cal, LdTime}
 use Rattle.meaning.specs.TimerLaws.{changed-twice}
 use Rattle.meaning.specs.ExecuteLaws.{executed-append}
-use Rattle.format.specs.declared.Decoded.{Decoded}
-use Rattle.format.specs.declared.Decoded.the-variants.{Known, Unknown}
-use Rattle.instruction.specs.declared.Running.{Running}
+use Rattle.format.specs.declared.Decoded.the-variants.{Known}
 use Rattle.instruction.specs.Effect as run
 use Rattle.values.specs.Value.{bitOn, withBit, valueIn, qsOf}
 use Rattle.instruction.specs.Effect.{storedTo, evaluated, running, flipFlops}

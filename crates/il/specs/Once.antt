@@ -3,7 +3,7 @@ use mathlib.Core.Path.{_≡_, sym, _∙_}
 use mathlib.Core.Bool.{Bool}
 use mathlib.Core.List.{List}
 use Prim.Native.Nat.{ℕ}
-use lib.ListN.{length, getD, set, drop}
+use lib.ListN.{length, drop}
 use Rattle.meaning.specs.Once.{Once, OnceSeen, two, is-once}
 use Rattle.instruction.specs.declared.Running.{Running}
 use Rattle.il.specs.declared.Stop.{Stop}
@@ -22,9 +22,3 @@ begin-once qs x y p q = two (p .0 ∙ sym (q .0), p .1 ∙ sym (q .1))
 
 pub outputs-once : (t : Stop) → Once (λ r. r ≡ t .running .outputs)
 outputs-once t = is-once (t .running .outputs)
-
-pub input-once : (xs : List ℕ) (i : ℕ) → Once (λ r. r ≡ getD xs i 0)
-input-once xs i = is-once (getD xs i 0)
-
-pub put-word-once : (l : List ℕ) (i w : ℕ) → Once (λ m. m ≡ set l i w)
-put-word-once l i w = is-once (set l i w)

@@ -1,7 +1,7 @@
 // A program's words run over a lent controller: flip-flop bytes and timer blocks.
 use instruction::Running;
 ghost use mathlib.Core.Path.{_≡_};
-ghost use lib.ListN.{length, getD, set, drop};
+ghost use lib.ListN.{length, drop};
 ghost use Rattle.il.specs.Advance.{Goes};
 ghost use Rattle.il.specs.Run.{advanced, resumed, fresh};
 
@@ -98,23 +98,4 @@ pub fn outputs(t: Stop) -> u64
 {
     let s = t.running;
     s.outputs
-}
-
-// The input word of scan i, from 0.
-pub fn input(inputs: &[u64], i: usize) -> u64
-    ensures { λ r. ⌜ r ≡ getD (now (inputs .entry)) i 0 ⌝ }
-{
-    if i < inputs.len() {
-        return inputs[i];
-    }
-    0
-}
-
-// The output word of scan i, from 0.
-pub fn put_word(results: &mut [u64], i: usize, w: u64)
-    ensures { λ _. ⌜ now (results .exit) ≡ set (now (results .entry)) i w ⌝ }
-{
-    if i < results.len() {
-        results[i] = w;
-    }
 }

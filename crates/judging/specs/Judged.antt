@@ -1,13 +1,14 @@
 -- What the checks of a lent controller, a step and the number of results come to, in their order, and that they have one answer.
-use mathlib.Core.Path.{_≡_, refl, sym, ap, _∙_}
+use mathlib.Core.Path.{_≡_, sym, ap, _∙_}
 use mathlib.Core.Logic.{_↔_}
 use Prim.Native.Nat.{ℕ, _≤_, _<_}
 use native.Mathlib.Omega.{arith}
-use mathlib.Core.Bool.{Bool, true, false, cond, false≢true}
+use mathlib.Core.Bool.{Bool, true, false, cond}
 use mathlib.Core.List.{List}
 use lib.ListN.{length}
 use lib.Dec.{eqb}
 use borrow.Author.Tests.{le-leb, lt-leb}
+use Rattle.meaning.specs.RowsLaws.{not-both, same-test}
 use Rattle.meaning.specs.Tables.{mostStep}
 use Rattle.meaning.specs.Literals.{between}
 use Rattle.meaning.specs.Programs.{Program}
@@ -52,23 +53,15 @@ isAccepted (G.Refused q) = false
 
 -- ---- no second answer
 
-clash : {b : Bool} → b ≡ false → b ≡ true → ⊥
-clash e f = false≢true (sym e ∙ f)
-
-same-test : (a b : Bool) → (a ≡ true → b ≡ true) → (b ≡ true → a ≡ true) → a ≡ b
-same-test true b f g = sym (f refl)
-same-test false true f g = g refl
-same-test false false f g = refl
-
 module _ {d : ℕ} {ws fs : List ℕ} {n : ℕ} {timely : Bool} {i m : ℕ} where
   pub judged-same : {v w : Verdict} → JudgedBy d ws fs n timely i m v → JudgedBy d ws fs n timely i m w → v ≡ w
   judged-same (JudgedBy.step a e) (JudgedBy.step b f) = e ∙ sym f
-  judged-same (JudgedBy.step a e) (JudgedBy.text b k h f) = absurd (clash a b)
-  judged-same (JudgedBy.step a e) (JudgedBy.rest b p h ok t f) = absurd (clash a b)
-  judged-same (JudgedBy.text a k h e) (JudgedBy.step b f) = absurd (clash b a)
+  judged-same (JudgedBy.step a e) (JudgedBy.text b k h f) = absurd (not-both a b)
+  judged-same (JudgedBy.step a e) (JudgedBy.rest b p h ok t f) = absurd (not-both a b)
+  judged-same (JudgedBy.text a k h e) (JudgedBy.step b f) = absurd (not-both b a)
   judged-same (JudgedBy.text a k h e) (JudgedBy.text b j g f) = e ∙ ap (λ (o : ℕ). G.Refused (Text o)) (place-same AcceptedWords _ ws k j h g) ∙ sym f
   judged-same (JudgedBy.text a k h e) (JudgedBy.rest b p g ok t f) = absurd (h .refused (p, g .program, g .list))
-  judged-same (JudgedBy.rest a p g ok t e) (JudgedBy.step b f) = absurd (clash b a)
+  judged-same (JudgedBy.rest a p g ok t e) (JudgedBy.step b f) = absurd (not-both b a)
   judged-same (JudgedBy.rest a p g ok t e) (JudgedBy.text b k h f) = absurd (h .refused (p, g .program, g .list))
   judged-same (JudgedBy.rest a p g ok t e) (JudgedBy.rest b s h on u f) =
       let z : p ≡ s = words-same p s (g .program) (h .program) (g .list ∙ sym (h .list)) in

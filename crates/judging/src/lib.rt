@@ -2,6 +2,7 @@
 use meaning::Refusal;
 use meaning::Verdict;
 use phases::Passed;
+use tables::Chart;
 ghost use mathlib.Core.Path.{_≡_};
 ghost use mathlib.Core.Bool.{Bool};
 ghost use mathlib.Core.Logic.{_↔_};
@@ -52,7 +53,7 @@ pub fn judge(
     if step < 1 {
         return Verdict::Refused(Refusal::Size);
     }
-    if 1000 < step {
+    if Chart::STEP < step {
         return Verdict::Refused(Refusal::Size);
     }
     let passed = phases::words_pass(words);

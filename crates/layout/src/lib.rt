@@ -91,8 +91,8 @@ fn code_one(states: &[u16], s: usize, others: &mut [u16; 256], codes: &mut [u16;
     codes[s] = others[a];
 }
 
-// The code of each sub-state.
-fn codes_each(states: &[u16]) -> [u16; 256]
+// The code of each sub-state alone, for those who ask for no group.
+pub fn codes_of(states: &[u16]) -> [u16; 256]
     ensures { λ r. ⌜ ((c : Tables) → c .states ≡ now (states .entry) → r ≡ row (givenCode c) (laidStates c)) ⌝ }
 {
     let n = laid_states(states);
@@ -112,7 +112,7 @@ pub fn lay_out(states: &[u16]) -> Layout
 {
     let n = laid_states(states);
     let counts = sub_states_each(states);
-    let code = codes_each(states);
+    let code = codes_of(states);
     let mut first = [0u16; 256];
     let mut widths = [0u8; 256];
     let mut total: u32 = 0;
@@ -189,11 +189,4 @@ pub fn sub_with_code(states: &[u16], a: usize, k: usize) -> usize
         s += 1;
     }
     s
-}
-
-// The code of each sub-state alone, for those who ask for no group.
-pub fn codes_of(states: &[u16]) -> [u16; 256]
-    ensures { λ r. ⌜ ((c : Tables) → c .states ≡ now (states .entry) → r ≡ row (givenCode c) (laidStates c)) ⌝ }
-{
-    codes_each(states)
 }

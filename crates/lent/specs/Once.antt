@@ -8,7 +8,7 @@ use Rattle.meaning.specs.Tables.{Tables}
 use Rattle.meaning.specs.Rules.{Rules}
 use Rattle.tables.specs.declared.Chart.{Chart}
 use Rattle.machine.specs.Held.{Given}
-use Rattle.lent.specs.declared.Ran.{Ran}
+use Rattle.meaning.specs.declared.Ran.{Ran}
 use Rattle.lent.specs.Slice.{LentRun}
 
 pub run-checked-once : (c : Tables) (h : Chart) (ss : List ℕ) (ms : List ℤ) (ps ts os xs l leaves outputs : List ℕ) → Given c (h .step) (h .outputs) ss ms ps ts os → Rules c

@@ -18,7 +18,7 @@ use Rattle.meaning.specs.declared.Refusal.{Refusal}
 use Rattle.meaning.specs.declared.Refusal.the-variants as R
 use Rattle.meaning.specs.declared.Verdict.the-variants.{Accepted, Refused}
 use Rattle.machine.specs.Held.{Scanned}
-use Rattle.lent.specs.declared.Ran.the-variants as A
+use Rattle.meaning.specs.declared.Ran.the-variants as A
 use Rattle.lent.specs.Slice.{Room, laterVerdict, answer, left, LentRun}
 
 -- slices of n places a state, all 0

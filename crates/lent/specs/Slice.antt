@@ -13,8 +13,8 @@ use Rattle.meaning.specs.declared.Verdict.{Verdict}
 use Rattle.meaning.specs.declared.Verdict.the-variants.{Accepted, Refused}
 use Rattle.machine.specs.Held.{Empty}
 use Rattle.stateread.specs.Codes.{StateRoom}
-use Rattle.lent.specs.declared.Ran.{Ran}
-use Rattle.lent.specs.declared.Ran.the-variants as A
+use Rattle.meaning.specs.declared.Ran.{Ran}
+use Rattle.meaning.specs.declared.Ran.the-variants as A
 
 -- room for a run, with nothing in it
 pub record Room (c : Tables) (wants memory runs shows asks : List ℕ) : Type 0 where

@@ -1,4 +1,5 @@
 // The run over a lent chart state. The tables have passed the check; on other tables it is harmless.
+use meaning::Ran;
 use meaning::Refusal;
 use tables::Chart;
 ghost use mathlib.Core.Path.{_≡_};
@@ -9,12 +10,6 @@ ghost use Rattle.meaning.specs.Tables.{Tables};
 ghost use Rattle.meaning.specs.Rules.{Rules};
 ghost use Rattle.machine.specs.Held.{Given};
 ghost use Rattle.lent.specs.Slice.{LentRun, Room};
-
-// A run answers how many scans it did.
-pub enum Ran {
-    Done(usize),
-    Refused(Refusal),
-}
 
 // "then 14, 15": the refusals after those of the tables. "A refusal writes nothing." The run works in the lent slices, which
 // are all 0.

@@ -1,19 +1,20 @@
 -- What a writer of lines leaves: where the word w fits into the list l from the place i on, it stands there; the next place
 -- in any case, up to the largest. Where it does not fit, the caller has measured before and writes nothing.
-use mathlib.Core.Path.{_≡_, refl, ap, sym, _∙_}
-use mathlib.Core.List.{List, [], _∷_, _++_}
-use Prim.Native.Nat.{ℕ, _+_, _≤_, _<_, min}
+use mathlib.Core.Path.{_≡_, refl, sym, _∙_}
+use mathlib.Core.List.{List, [], _++_}
+use Prim.Native.Nat.{ℕ, _+_, _≤_, min}
 use native.Mathlib.Omega.{arith}
 use lib.ListN.{length, length-append}
-use lib.Seq.{sets, length-sets}
+use lib.Seq.{sets}
+use Rattle.meaning.specs.Top.{top}
 use Rattle.meaning.specs.RowsLaws.{sets-append}
-use Rattle.lines.specs.Put.{Put, most, put-length}
+use Rattle.lines.specs.Put.{Put, put-length}
 
 pub record Fit (l : List ℕ) (i : ℕ) (w m : List ℕ) (r : ℕ) : Type 0 where
-  pub small : length l ≤ most
+  pub small : length l ≤ top
   pub long : length m ≡ length l
   pub list : i + length w ≤ length l → m ≡ sets l i w
-  pub next : r ≡ min (i + length w) most
+  pub next : r ≡ min (i + length w) top
 
 -- a writer as far as the list reaches is one
 pub put-fit : {l w m : List ℕ} {i r : ℕ} → Put l i w m r → Fit l i w m r
@@ -33,5 +34,5 @@ fit-fit {l} {m} {n} {v} {w} {i} {j} p q = record {
   next = omega (arith, p .next, q .next, length-append v w);
 }
 
-pub fit-none : (l : List ℕ) (i : ℕ) → length l ≤ most → i ≤ most → Fit l i [] l i
+pub fit-none : (l : List ℕ) (i : ℕ) → length l ≤ top → i ≤ top → Fit l i [] l i
 fit-none l i h g = record { small = h; long = refl; list = λ x. refl; next = omega arith }

@@ -1,3 +1,4 @@
 pub mod Put
 pub mod Fit
+pub mod WroteLaws
 pub mod Once

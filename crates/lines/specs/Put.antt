@@ -1,39 +1,36 @@
 -- What a writer leaves: the word w over the list l from the place i on, as far as l goes, and the next place, up to the largest.
 use mathlib.Core.Path.{_≡_, refl, ap, sym, _∙_}
 use mathlib.Core.List.{List, [], _++_}
-use Prim.Native.Nat.{ℕ, zero, _+_, _-_, _^_, _≤_, _<_, min}
+use Prim.Native.Nat.{ℕ, _+_, _-_, _≤_, min}
 use native.Mathlib.Decide.{decLe}
 use native.Mathlib.Omega.{arith}
-use lib.ListN.{length, length-append, length-set}
+use lib.ListN.{length, length-append}
 use lib.Seq.{sets, length-sets}
 use Rattle.meaning.specs.RowsLaws.{sets-append, sets-out}
-use Rattle.format.specs.Text.{decimal}
-
-abbrev pub most : ℕ
-most = 18446744073709551615
+use Rattle.meaning.specs.Top.{top}
 
 -- the list m and the place r that a writer of w leaves, where it starts at the place i of l
 pub record Put (l : List ℕ) (i : ℕ) (w m : List ℕ) (r : ℕ) : Type 0 where
-  pub fits : length l ≤ most
+  pub fits : length l ≤ top
   pub list : m ≡ sets l i w
-  pub next : r ≡ min (i + length w) most
+  pub next : r ≡ min (i + length w) top
 
 -- a place beyond the largest is beyond every list
-sets-most : (l : List ℕ) (i : ℕ) (w : List ℕ) → length l ≤ most → sets l (min i most) w ≡ sets l i w
-sets-most l i w h = elim (decLe i most) [
-  | yes p ↦ (let e : min i most ≡ i = omega arith in rw e)
-  | no f ↦ sets-out l (min i most) w (omega arith) ∙ sym (sets-out l i w (omega arith))
+sets-top : (l : List ℕ) (i : ℕ) (w : List ℕ) → length l ≤ top → sets l (min i top) w ≡ sets l i w
+sets-top l i w h = elim (decLe i top) [
+  | yes p ↦ (let e : min i top ≡ i = omega arith in rw e)
+  | no f ↦ sets-out l (min i top) w (omega arith) ∙ sym (sets-out l i w (omega arith))
 ]
 
 -- two writers in a row
 pub put-put : {l m n v w : List ℕ} {i j k : ℕ} → Put l i v m j → Put m j w n k → Put l i (v ++ w) n k
 put-put {l} {v = v} {w} {i} p q = record {
   fits = p .fits;
-  list = (rw (p .list, p .next) at (q .list)) ∙ sets-most (sets l i v) (i + length v) w (simp length-sets (p .fits)) ∙ sym (sets-append v l i w);
+  list = (rw (p .list, p .next) at (q .list)) ∙ sets-top (sets l i v) (i + length v) w (simp length-sets (p .fits)) ∙ sym (sets-append v l i w);
   next = omega (arith, p .next, q .next, length-append v w);
 }
 
-pub put-none : (l : List ℕ) (i : ℕ) → length l ≤ most → i ≤ most → Put l i [] l i
+pub put-none : (l : List ℕ) (i : ℕ) → length l ≤ top → i ≤ top → Put l i [] l i
 put-none l i h g = record { fits = h; list = refl; next = omega arith }
 
 -- a writer keeps the length

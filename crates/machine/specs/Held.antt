@@ -6,7 +6,8 @@ use lib.ListN.{length, getD, take}
 use lib.IntN.{ℤ}
 use Rattle.meaning.specs.Tables.{Tables, stateCount, moveCount, timerCount}
 use Rattle.meaning.specs.Machine.{State, Seen, trace, after}
-use Rattle.paths.specs.Words.{Worded}
+use Rattle.tables.specs.Given.{Lent}
+use Rattle.pairing.specs.Words.{Worded}
 use Rattle.choosing.specs.Choice.{LinkedTo, AskedTo}
 use Rattle.timers.specs.Times.{longest}
 
@@ -38,8 +39,4 @@ pub record Scanned (c : Tables) (s : State) (xs : List ℕ) (s′ : State) (ls o
 pub record Given (c : Tables) (d o : ℕ) (ss : List ℕ) (ms : List ℤ) (ps ts os : List ℕ) : Type 0 where
   pub step : c .step ≡ d
   pub outputs : c .outputs ≡ o
-  pub states : c .states ≡ ss
-  pub moves : c .moves ≡ ms
-  pub presets : c .presets ≡ ps
-  pub timerPairs : c .timerPairs ≡ ts
-  pub outputPairs : c .outputPairs ≡ os
+  pub lent : Lent c ss ms ps ts os

@@ -9,7 +9,7 @@ use Rattle.meaning.specs.Tables.{Tables, stateCount}
 use Rattle.meaning.specs.Rules.{Rules}
 use Rattle.meaning.specs.Machine.{State, Valid}
 use Rattle.tables.specs.declared.Chart.{Chart}
-use Rattle.paths.specs.Words.{Worded}
+use Rattle.pairing.specs.Words.{Worded}
 use Rattle.machine.specs.Held.{Given, Empty, Scanned, held}
 
 pub run-once : (c : Tables) (h : Chart) (ss : List ℕ) (ms : List ℤ) (ps os rs ws qs m t xs leaves outputs : List ℕ)

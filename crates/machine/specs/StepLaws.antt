@@ -16,19 +16,16 @@ use Rattle.meaning.specs.Literals.{inputOn}
 use Rattle.meaning.specs.Rules.{Rules}
 use Rattle.meaning.specs.Machine.{State, Valid, seen, trace, after, timerValue, activeLeaf, chosen, expired, timed, setting, memoryAfter, moved, step, seenAt}
 use Rattle.meaning.specs.MachineLaws.{Sound, valid-sound, after-step, moved-sound, trace-append, after-append, chosen-same}
-use Rattle.pairing.specs.Words.{Tree, PairedWords}
-use Rattle.paths.specs.Words.{expiredAt, Worded}
-use Rattle.paths.specs.FlagsLaws.{is-table}
+use Rattle.pairing.specs.Words.{Tree}
+use Rattle.paths.specs.Words.{expiredAt}
+use Rattle.paths.specs.WalkLaws.{is-table}
 use Rattle.choosing.specs.Choice.{read}
 use Rattle.machine.specs.Held.{Scanned, held}
 use Rattle.timers.specs.Times.{longest, grown}
 
--- the words of what is paired, as the check makes them, are those that the scan reads
+-- the states of accepted tables make a tree
 pub rules-tree : (c : Tables) → Rules c → Tree c
 rules-tree c R = record { few = R .size .fewStates; hierarchy = R .hierarchy }
-
-pub worded : (c : Tables) (ps ws : List ℕ) → PairedWords c ps ws → Worded c ps ws
-worded c ps ws f s n h k = f (suc n) s (omega arith) (omega arith) h
 
 module _ (c : Tables) (R : Rules c) where
   -- the choice by words

@@ -9,7 +9,7 @@ ghost use Rattle.meaning.specs.Tables.{Tables, stateCount, moveCount};
 ghost use Rattle.meaning.specs.Rules.{Rules};
 ghost use Rattle.meaning.specs.Machine.{activeLeaf, moved, step, Valid};
 ghost use Rattle.meaning.specs.MachineLaws.{Sound};
-ghost use Rattle.paths.specs.Words.{Worded};
+ghost use Rattle.pairing.specs.Words.{Worded};
 ghost use Rattle.machine.specs.Held.{Given, Made, Empty, Scanned, held};
 
 // The leaf after move i from the leaf l: "with none, the state stays".
@@ -49,14 +49,14 @@ fn scan(
         → Valid c (held c (now (memory .entry)) (now (timers .entry))) → l ≡ activeLeaf c (take (stateCount c) (now (memory .entry)))
         → (held c (now (memory .exit)) (now (timers .exit)) ≡ step c x (held c (now (memory .entry)) (now (timers .entry)))) × (r ≡ activeLeaf c (take (stateCount c) (now (memory .exit))))) ⌝ }
 {
-    let ran = paths::word(runs, l);
+    let ran = slices::word(runs, l);
     let y = paths::expired_of(presets, ran, timers);
     let i = choosing::chosen(states, moves, links, asks, l, x, y);
     let next = leaf_after(states, moves, i, l, memory);
     timers::time(
         chart.step,
         most,
-        ran & paths::word(runs, next),
+        ran & slices::word(runs, next),
         presets.len(),
         timers,
     );

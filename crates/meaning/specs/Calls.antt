@@ -3,15 +3,10 @@ use Prim.Native.Nat.{ℕ}
 use mathlib.Core.List.{List, [], _∷_, _++_}
 use lib.ListN.{length, drop}
 use lib.Dec.{eqb}
-use Rattle.meaning.specs.Tables.{Tables, mostStep}
-use Rattle.meaning.specs.Literals.{between}
+use Rattle.meaning.specs.Tables.{Tables}
 use Rattle.meaning.specs.Check.{Check, checks}
 use Rattle.meaning.specs.Lent.{statePasses}
 use Rattle.meaning.specs.declared.Refusal.the-variants as R
-
--- SIZE of a scan step that is given without tables
-unfoldable pub stepCheck : ℕ → Check
-stepCheck d = record { refusal = λ p. R.Size; rows = 1; passes = λ i. between 1 mostStep d }
 
 unfoldable pub stateCheck : Tables → List ℕ → Check
 stateCheck c l = record { refusal = λ p. R.State; rows = 1; passes = λ i. statePasses c l }

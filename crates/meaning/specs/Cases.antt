@@ -10,7 +10,6 @@ use Rattle.meaning.specs.Machine.{Seen, start, trace}
 use Rattle.meaning.specs.History.{reading}
 use Rattle.meaning.specs.Compute.{compute}
 use Rattle.meaning.specs.declared.Refusal.the-variants as R
-use Rattle.meaning.specs.declared.Verdict.{Verdict}
 use Rattle.meaning.specs.declared.Verdict.the-variants.{Accepted, Refused}
 
 -- a row of the moves table with two literal places in use

@@ -1,11 +1,11 @@
 -- The program of an accepted chart meets demands 2 and 3.
 use mathlib.Core.Path.{_≡_, refl, sym, ap, ap₂, _∙_, subst}
-use Prim.Native.Nat.{ℕ, _+_, _*_}
+use Prim.Native.Nat.{ℕ}
 use native.Mathlib.Omega.{arith}
 use mathlib.Core.List.{List, [], _∷_, map}
 use Rattle.meaning.specs.Tables.{Tables, initial}
 use Rattle.meaning.specs.Rules.{Rules}
-use Rattle.meaning.specs.Machine.{State, activeLeaf, start, step, Seen, seen, seenAt, trace, after, Valid, wordOf}
+use Rattle.meaning.specs.Machine.{State, start, step, Seen, seen, trace, after, Valid, wordOf}
 use Rattle.meaning.specs.FollowLaws.{initial-leads}
 use Rattle.meaning.specs.MachineLaws.{table-leaf, start-valid, step-valid}
 use Rattle.meaning.specs.History.{firstLeaf, reading}
@@ -18,7 +18,7 @@ use Rattle.meaning.specs.Effects.{programDone}
 use Rattle.meaning.specs.ExecuteLaws.{program-executed}
 use Rattle.meaning.specs.ProgramLaws.{program-fits, program-bytes, program-blocks, cleared-valid}
 use Rattle.meaning.specs.StandsLaws.{shown-leaf, cleared-stands}
-use Rattle.meaning.specs.Simulate.{Holds, Simulated, simulates, valid-holds, holds-again, valid-again}
+use Rattle.meaning.specs.Simulate.{Holds, simulates, valid-holds, holds-again, valid-again}
 use Rattle.meaning.specs.HeldLaws.{controllerFor, controller-stands, controller-valid}
 use Rattle.meaning.specs.Demands.{shown, programTrace, lastLeaf, OneStep, DoesTheChart, RunsAsRead}
 

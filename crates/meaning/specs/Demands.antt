@@ -31,7 +31,7 @@ pub record OneStep (c : Tables) (p : Program) (k : Controller) (s : State) (x : 
   pub stands : StandsFor c (scanned (c .step) x (instructions p) k) (step c x s)
   pub same : shown c p x k ≡ seen c (step c x s)
 
--- Demand 2: "From each valid state one scan of the written program is one machine step"
+-- Demand 2: from each valid state one scan of the written program is one step of the machine
 pub record DoesTheChart (c : Tables) (p : Program) : Type 0 where
   -- the program names the chart's flip-flops and their working copies and no more, and declares the chart's timers
   pub bytes : flipFlopBytes (instructions p) ≡ 2 * flipFlops c

@@ -1,16 +1,16 @@
 -- Following a memory down an accepted chart, and what a move does to the path.
 use mathlib.Core.Path.{_≡_, refl, sym, ap, ap₂, _∙_}
-use mathlib.Core.Logic.{_≢_, _⊎_, inl, inr}
+use mathlib.Core.Logic.{_≢_, inl, inr}
 use Prim.Native.Nat.{ℕ, zero, suc, _+_, _-_, _≤_, _<_}
 use native.Mathlib.Omega.{arith}
 use native.Mathlib.Decide.{ℕ-discrete, decLe}
-use mathlib.Core.Bool.{Bool, true, false, not, cond, _&&_, true≢false, false≢true}
-use Rattle.meaning.specs.RowsLaws.{which, and-l, and-r, and-both}
-use Rattle.meaning.specs.Tables.{Tables, mostDepth, stateCount, superState, initial}
+use mathlib.Core.Bool.{Bool, true, false, true≢false, false≢true}
+use Rattle.meaning.specs.RowsLaws.{which, and-r}
+use Rattle.meaning.specs.Tables.{Tables, mostDepth, stateCount, initial}
 use Rattle.meaning.specs.Hierarchy.{depth, atOrAbove, above, onTheWay, leaf}
 use Rattle.meaning.specs.Rules.{SubState, Rules}
 use Rattle.meaning.specs.Machine.{descend, follow, guide, reached, entered}
-use Rattle.meaning.specs.TreeLaws.{Over, depth-root, depth-sub, shallow, over-yes, yes-over, above-yes, above-no, over-le, over-lt, over-refl, over-trans, over-down, over-same, over-root, over-super, over-known, over-way, depth-way, super-way, way-sub, initial-sub, super-no-leaf, leaf-beyond}
+use Rattle.meaning.specs.TreeLaws.{Over, depth-root, depth-sub, shallow, over-yes, yes-over, above-yes, above-no, over-lt, over-refl, over-trans, over-down, over-same, over-root, over-super, over-known, over-way, depth-way, super-way, way-sub, initial-sub, super-no-leaf, leaf-beyond}
 
 -- each super-state leads to a sub-state of its own
 abbrev pub Leads : Tables → (ℕ → ℕ) → Type 0
@@ -159,7 +159,7 @@ module _ (c : Tables) (R : Rules c) where
         go false e true f = rw (e, f, entered) (G s n)
         go false e false f = rw (e, f, entered) (W s n)
 
-    -- "every super-state above its target .. lead[s] to the target"
+    -- "A move sets every super-state above its target to lead to the target."
     pub enters : (a : ℕ) → Over c a t → a ≢ t → entered c g m t a ≡ onTheWay c a t
     unfolding entered
     enters a p n = elim (which (above c a t)) [ inl e ↦ rw (e, entered) | inr e ↦ absurd (above-no c R a t e p n) ]

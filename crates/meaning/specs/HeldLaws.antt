@@ -2,28 +2,25 @@
 use mathlib.Core.Path.{_≡_, refl, sym, ap, _∙_}
 use mathlib.Core.Logic.{_≢_, inl, inr}
 use Prim.Native.Nat.{ℕ, zero, suc, _+_, _*_, _-_, _^_, _≤_, _<_, min}
-use native.Mathlib.Nat.{zero-add}
 use native.Mathlib.Omega.{arith}
 use native.Mathlib.Decide.{ℕ-discrete, decLe}
-use mathlib.Core.Bool.{true, false, not, _&&_, cond, and-false}
+use mathlib.Core.Bool.{false, not, and-false}
 use mathlib.Core.List.{List}
-use lib.ListN.{length, getD, replicate, length-replicate, getD-replicate, List·getD-eq-default}
+use lib.ListN.{length, replicate, length-replicate, getD-replicate, List·getD-eq-default}
 use lib.Dec.{eqb}
-use borrow.Author.Tests.{eq-eqb, ne-eqb}
+use borrow.Author.Tests.{ne-eqb}
 use Rattle.meaning.specs.Rows.{table}
 use Rattle.meaning.specs.RowsLaws.{which, length-table, getD-table}
 use Rattle.meaning.specs.Tables.{Tables, stateCount, timerCount, preset}
 use Rattle.meaning.specs.Hierarchy.{leaf, runs}
-use Rattle.meaning.specs.HierarchyLaws.{no-leaf-tells}
 use Rattle.meaning.specs.Layout.{groupWidth, groupFirst, flipFlops, code}
 use Rattle.meaning.specs.LayoutLaws.{bitsWritten, written-length, written-outside, written-read, group-apart, group-fits}
 use Rattle.meaning.specs.Rules.{Rules}
 use Rattle.meaning.specs.Machine.{State, remembered, timerValue, activeLeaf, Valid}
-use Rattle.meaning.specs.Programs.{TimerRung}
 use Rattle.meaning.specs.Scan.{Controller, blank, blockAt, flipFlopOn, elapsed, ton, withIn, withPt, ValidController}
 use Rattle.meaning.specs.Written.{program}
 use Rattle.meaning.specs.ProgramLaws.{program-bytes, program-blocks, program-time}
-use Rattle.meaning.specs.Stands.{codeAt, Codes, nextCall, StandsFor}
+use Rattle.meaning.specs.Stands.{codeAt, nextCall, StandsFor}
 use Rattle.meaning.specs.TestLaws.{valid-leads, sub-fits}
 use Rattle.meaning.specs.StoreLaws.{same-code, Bits, written-bits}
 use Rattle.meaning.specs.declared.Block.{Block}

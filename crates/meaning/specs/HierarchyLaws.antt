@@ -1,14 +1,13 @@
 -- The tests of Hierarchy.antt say what Rules.antt says in words, for any tables.
 use mathlib.Core.Path.{_≡_, refl, sym, ap, _∙_}
 use mathlib.Core.Logic.{_≢_, _⊎_, inl, inr, _↔_}
-use Prim.Native.Nat.{ℕ, zero, suc, _+_, _-_, _*_, _≤_, _<_}
+use Prim.Native.Nat.{ℕ, zero, suc, _+_, _-_, _≤_}
 use native.Mathlib.Nat.{suc-add, zero-add}
 use native.Mathlib.Omega.{arith}
-use native.Mathlib.Decide.{ℕ-discrete, decLe}
-use mathlib.Core.Bool.{Bool, true, false, not, _&&_, true≢false, false≢true}
-use lib.Dec.{eqb, ltb, leb}
-use borrow.Author.Tests.{eqb-true, eqb-false, eq-eqb, ne-eqb, lt-ltb, ltb-true}
-use Rattle.meaning.specs.Rows.{some, count}
+use native.Mathlib.Decide.{decLe}
+use mathlib.Core.Bool.{true, false, true≢false, false≢true}
+use borrow.Author.Tests.{eqb-true, eq-eqb, lt-ltb, ltb-true}
+use Rattle.meaning.specs.Rows.{count}
 use Rattle.meaning.specs.RowsLaws.{which, and-l, and-r, count-past, count-none}
 use Rattle.meaning.specs.Tells.{and-tells, some-tells, eqb-tells}
 use Rattle.meaning.specs.Tables.{Tables, mostDepth, stateCount, superState, pairCount, pairNumber, pairState}

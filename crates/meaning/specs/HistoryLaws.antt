@@ -5,7 +5,7 @@ use Prim.Native.Nat.{ℕ, zero, suc, _+_, _*_, _-_, _/_, _≤_, _<_, min}
 use native.Mathlib.Nat.{mul-le-mul-right, div-lt-iff-lt-mul, le-refl}
 use native.Mathlib.Omega.{arith}
 use mathlib.Core.Bool.{true, false}
-use mathlib.Core.List.{List, [], _∷_, _++_, map}
+use mathlib.Core.List.{List, [], _∷_, map}
 use lib.Dec.{leb, ltb}
 use borrow.Author.Tests.{leb-true, le-leb, lt-leb, ltb-true}
 use Rattle.meaning.specs.RowsLaws.{which, same-test}
@@ -14,7 +14,7 @@ use Rattle.meaning.specs.Hierarchy.{above, leaf, runs}
 use Rattle.meaning.specs.HierarchyLaws.{runs-tells}
 use Rattle.meaning.specs.Literals.{inputOn}
 use Rattle.meaning.specs.Rules.{Rules}
-use Rattle.meaning.specs.Machine.{State, remembered, timerValue, follow, activeLeaf, chosen, guide, moved, expired, timed, start, setting, memoryAfter, step, seenAt, seen, trace, after, Valid}
+use Rattle.meaning.specs.Machine.{State, remembered, timerValue, follow, activeLeaf, chosen, guide, moved, expired, timed, start, setting, memoryAfter, step, seenAt, seen, trace, Valid}
 use Rattle.meaning.specs.FollowLaws.{super-known, initial-leads, follow-same, remembers-path, guide-leads}
 use Rattle.meaning.specs.MachineLaws.{Sound, remembered-table, timer-table, valid-sound, table-leaf, moved-leaf, start-valid, step-valid, step-stays}
 use Rattle.meaning.specs.History.{lastActive, lastRan, expiredBy, nextLeaf, firstLeaf, leavesFrom, reading}

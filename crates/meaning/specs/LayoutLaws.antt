@@ -4,7 +4,7 @@ use mathlib.Core.Logic.{_≢_, _⊎_, inl, inr}
 use Prim.Native.Nat.{ℕ, zero, suc, _+_, _*_, _-_, _/_, _%_, _^_, _≤_, _<_}
 use native.Mathlib.Nat.{le-antisymm, lt-of-lt-of-le}
 use native.Mathlib.Omega.{arith}
-use native.Mathlib.Decide.{ℕ-discrete, decLe}
+use native.Mathlib.Decide.{ℕ-discrete}
 use mathlib.Core.Bool.{Bool, true, false, cond, _&&_, Bool·beq, and-true, true≢false}
 use mathlib.Core.List.{List}
 use lib.ListN.{length, set, length-set}
@@ -14,7 +14,7 @@ use lib.Count.{leadingZeros, leading-length}
 use lib.Pow.{pow-pos, pow-mono}
 use borrow.Author.Tests.{eqb-true, eq-eqb, ne-eqb}
 use Rattle.meaning.specs.Rows.{count, table}
-use Rattle.meaning.specs.RowsLaws.{which, same-test, count-past, count-less, count-at}
+use Rattle.meaning.specs.RowsLaws.{bit-small, same-test, count-past, count-less, count-at}
 use Rattle.meaning.specs.Tables.{Tables, stateCount, initial}
 use Rattle.meaning.specs.Hierarchy.{subState, subStates}
 use Rattle.meaning.specs.HierarchyLaws.{sub-state-tells}
@@ -136,11 +136,6 @@ module _ (c : Tables) (a : ℕ) (good : subState c a (initial c a) ≡ true) whe
 
 -- ---- bits
 
--- a bit is 0 or 1
-bit-le : (b : Bool) → cond b 1 0 ≤ 1
-bit-le true = omega arith
-bit-le false = omega arith
-
 -- the lowest bit of a number, as a test and back
 pub bit-of : (d : ℕ) → cond (eqb (d % 2) 1) 1 0 ≡ d % 2
 bit-of d = elim (ℕ-discrete (d % 2) 1) [ yes e ↦ rw e | no n ↦ rw (ne-eqb (d % 2) 1 n) (omega arith) ]
@@ -149,7 +144,7 @@ bit-of d = elim (ℕ-discrete (d % 2) 1) [ yes e ↦ rw e | no n ↦ rw (ne-eqb 
 pub codeAt-lt : (fs : List ℕ) (o w : ℕ) → codeAt fs o w < 2 ^ w
 unfolding codeAt wordOf table
 codeAt-lt fs o zero = omega arith
-codeAt-lt fs o (suc w) = omega (arith, codeAt-lt fs (suc o) w, bit-le (flipFlopOn fs o))
+codeAt-lt fs o (suc w) = omega (arith, codeAt-lt fs (suc o) w, bit-small (flipFlopOn fs o))
 
 -- two numbers with one lowest bit are equal exactly where the rests are
 same-rest : (v m n : ℕ) → eqb m n ≡ eqb (v + 2 * m) (v + 2 * n)

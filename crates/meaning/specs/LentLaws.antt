@@ -22,7 +22,7 @@ use Rattle.meaning.specs.Rules.{SubState, Leaf, Rules}
 use Rattle.meaning.specs.Machine.{State, remembered, timerValue, activeLeaf, start, step, Valid}
 use Rattle.meaning.specs.TreeLaws.{super-no-leaf}
 use Rattle.meaning.specs.FollowLaws.{super-known, initial-leads}
-use Rattle.meaning.specs.MachineLaws.{remembered-table, valid-sound, start-valid, step-valid}
+use Rattle.meaning.specs.MachineLaws.{remembered-table, valid-sound, start-valid}
 use Rattle.meaning.specs.Lent.{superStatesBelow, lentLength, coded, lentCode, lentMemory, stateOf, lentCodes, lentOf, codePasses, timerPasses, statePasses}
 
 -- ---- for any tables

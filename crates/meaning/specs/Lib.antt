@@ -1,4 +1,5 @@
 pub mod Refusals
+pub mod Top
 pub mod Rows
 pub mod RowsLaws
 pub mod Tells

@@ -12,7 +12,7 @@ use lib.Seq.{getD-set-same, getD-set-other}
 use lib.Dec.{ltb, eqb}
 use borrow.Author.Tests.{eq-eqb, lt-ltb, le-ltb, ltb-true}
 use Rattle.meaning.specs.Rows.{table}
-use Rattle.meaning.specs.RowsLaws.{which, and-l, and-r, some-intro, every-intro}
+use Rattle.meaning.specs.RowsLaws.{which, bit-small, and-l, and-r, some-intro, every-intro}
 use Rattle.meaning.specs.Tables.{Tables, moveCount, source, target, mark}
 use Rattle.meaning.specs.Hierarchy.{leaf}
 use Rattle.meaning.specs.Layout.{groupWidth, groupFirst, flipFlops, code}
@@ -198,10 +198,6 @@ beq-true false = refl
 bit-on : (b : Bool) → eqb (cond b 1 0) 1 ≡ b
 bit-on true = refl
 bit-on false = refl
-
-bit-small : (b : Bool) → cond b 1 0 ≤ 1
-bit-small true = omega arith
-bit-small false = omega arith
 
 -- "LD working copy, ST flip-flop"
 copy-done : (c : Tables) (x b : ℕ) (w : Within) → let fs = w .controller .flipFlops in

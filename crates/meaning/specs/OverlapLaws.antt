@@ -1,19 +1,19 @@
 -- The test for overlap is what overlap means; an accepted chart never has two enabled moves.
 use mathlib.Core.Path.{_≡_, refl, sym, ap, _∙_}
-use mathlib.Core.Logic.{_≢_, _⊎_, inl, inr, _↔_}
-use Prim.Native.Nat.{ℕ, zero, suc, _+_, _-_, _≤_, _<_}
+use mathlib.Core.Logic.{_≢_, inl, inr, _↔_}
+use Prim.Native.Nat.{ℕ, suc, _+_, _-_, _<_}
 use native.Mathlib.Omega.{arith}
-use native.Mathlib.Decide.{ℕ-discrete, decLe}
-use mathlib.Core.Bool.{Bool, true, false, not, cond, _&&_, _||_, Bool·beq, true≢false, false≢true, or-comm}
+use native.Mathlib.Decide.{decLe}
+use mathlib.Core.Bool.{Bool, true, false, not, _&&_, _||_, Bool·beq, true≢false, false≢true, or-comm}
 use lib.Dec.{leb, eqb}
 use lib.IntN.{ℤ, natAbs}
-use borrow.Author.Tests.{eqb-true, eqb-false, eq-eqb, ne-eqb, leb-true, not-true, not-false}
-use Rattle.meaning.specs.Rows.{least, some, every}
-use Rattle.meaning.specs.RowsLaws.{which, and-l, and-r, and-both, or-cases, or-l, or-r, true-not, false-not, same-test, some-yes, some-no, some-none, some-intro, every-yes, every-intro, least-at, least-none, least-passes}
+use borrow.Author.Tests.{eqb-true, eqb-false, eq-eqb, ne-eqb, leb-true, not-true}
+use Rattle.meaning.specs.Rows.{some, every}
+use Rattle.meaning.specs.RowsLaws.{which, and-l, and-r, and-both, or-cases, or-l, or-r, false-not, same-test, some-yes, some-no, some-none, some-intro, every-yes, every-intro, least-at, least-none, least-passes}
 use Rattle.meaning.specs.Tables.{Tables, literalPlaces, moveCount, source, literal}
-use Rattle.meaning.specs.Hierarchy.{up, atOrAbove}
+use Rattle.meaning.specs.Hierarchy.{atOrAbove}
 use Rattle.meaning.specs.Literals.{between, kindOf, wanted, Setting, holdsAs, holds, literalsHold}
-use Rattle.meaning.specs.Rules.{AtOrAbove, Overlap, OverlapRule, Rules}
+use Rattle.meaning.specs.Rules.{Overlap, Rules}
 use Rattle.meaning.specs.HierarchyLaws.{at-or-above-tells, one-above}
 use Rattle.meaning.specs.Check.{withinCounts, mayPrecede, placePasses, literalPasses, opposed, clash, overlaps}
 use Rattle.meaning.specs.Machine.{enabled, chosen}

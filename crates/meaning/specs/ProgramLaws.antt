@@ -248,11 +248,18 @@ module _ (c : Tables) (rules : Rules c) where
   unfolding pairsBody
   pairs-fit ps n h = or-fit (timerCount c) twice (all-map _ (stateTests c) (pairs-all _ ps n (λ i l. state-fits (pairState ps i) (h i l))))
 
+  -- S and R on any of the flip-flops and working copies
+  set-fits : {n : ℕ} → n < twice → StoreFits (O.S (Mx n))
+  unfolding storeFits flipFlopFits carried bytesFor flipFlopBytes
+  set-fits {n} h = record { passes = le-leb n 255 (omega (arith, rules .flipFlop .few)); few = omega arith }
+
+  reset-fits : {n : ℕ} → n < twice → StoreFits (O.R (Mx n))
+  unfolding storeFits flipFlopFits carried bytesFor flipFlopBytes
+  reset-fits {n} h = record { passes = le-leb n 255 (omega (arith, rules .flipFlop .few)); few = omega arith }
+
   bit-fits : (v : Bool) (b : ℕ) → b < flipFlops c → StoreFits (bitStore c v b)
-  unfolding bitStore storeFits flipFlopFits carried bytesFor flipFlopBytes
-  bit-fits v b h =
-      let e = le-leb (flipFlops c + b) 255 (omega (arith, rules .flipFlop .few)) in
-      by-cond StoreFits v (record { passes = e; few = omega arith }) (record { passes = e; few = omega arith })
+  unfolding bitStore
+  bit-fits v b h = by-cond StoreFits v (set-fits (omega arith)) (reset-fits (omega arith))
 
   initials-fit : (k t : ℕ) → All StoreFits (initialStores c k t)
   unfolding initialStores

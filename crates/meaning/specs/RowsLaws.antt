@@ -1,7 +1,7 @@
 -- Laws of tests joined by `&&` and `||`, of Rows.antt, and of lists.
 use mathlib.Core.Path.{_≡_, refl, sym, ap, _∙_}
-use mathlib.Core.Logic.{_≢_, _⊎_, inl, inr, _↔_}
-use Prim.Native.Nat.{ℕ, zero, suc, _+_, _-_, _≤_, _<_}
+use mathlib.Core.Logic.{_≢_, _⊎_, inl, inr}
+use Prim.Native.Nat.{ℕ, zero, suc, _+_, _≤_, _<_}
 use native.Mathlib.Nat.{lt-of-lt-of-le, add-zero, suc-add, add-suc}
 use native.Mathlib.Omega.{arith}
 use native.Mathlib.Decide.{ℕ-discrete, decLe}
@@ -50,6 +50,15 @@ false-not b e = rw e
 pub false-by : (b : Bool) → (b ≡ true → ⊥) → b ≡ false
 false-by true n = absurd (n refl)
 false-by false n = refl
+
+-- no test both fails and passes
+pub not-both : {b : Bool} → b ≡ false → b ≡ true → ⊥
+not-both e f = false≢true (sym e ∙ f)
+
+-- a test as a number
+pub bit-small : (b : Bool) → cond b 1 0 ≤ 1
+bit-small true = omega arith
+bit-small false = omega arith
 
 -- two tests that pass together are one
 pub same-test : (a b : Bool) → (a ≡ true → b ≡ true) → (b ≡ true → a ≡ true) → a ≡ b

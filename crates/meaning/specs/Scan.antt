@@ -1,6 +1,6 @@
 -- What instructions do to a controller: IEC 61131-3 as document 01 fixes it.
 use mathlib.Core.Path.{_≡_}
-use Prim.Native.Nat.{ℕ, zero, suc, _+_, _-_, _≤_, _<_, min}
+use Prim.Native.Nat.{ℕ, _+_, _-_, _≤_, _<_, min}
 use mathlib.Core.Bool.{Bool, true, false, _&&_, _||_, not, cond}
 use mathlib.Core.List.{List, [], _∷_, headD}
 use lib.ListN.{length, getD, set, drop, replicate}

@@ -1,4 +1,4 @@
--- One scan of a chart's program does one step of its machine: document 01's demand on the program, over the effects of Effects.antt.
+-- One scan of a chart's program does one step of its machine (demand 2), over the effects of Effects.antt.
 use mathlib.Core.Path.{_≡_, refl, sym, ap, _∙_}
 use Prim.Native.Nat.{ℕ, suc, _+_, _≤_, _<_, min}
 use native.Mathlib.Omega.{arith}

@@ -1,18 +1,18 @@
 -- The tree of an accepted chart's states: what is above what, by depth.
 use mathlib.Core.Path.{_≡_, refl, sym, ap, _∙_}
-use mathlib.Core.Logic.{_≢_, _⊎_, inl, inr, _↔_}
-use Prim.Native.Nat.{ℕ, zero, suc, _+_, _-_, _*_, _/_, _%_, _≤_, _<_}
+use mathlib.Core.Logic.{_≢_, _↔_}
+use Prim.Native.Nat.{ℕ, zero, suc, _+_, _-_, _≤_, _<_}
 use native.Mathlib.Omega.{arith}
-use native.Mathlib.Decide.{ℕ-discrete, decLe}
-use mathlib.Core.Bool.{Bool, true, false, not, _&&_, true≢false, false≢true}
+use native.Mathlib.Decide.{decLe}
+use mathlib.Core.Bool.{true, false, not, true≢false, false≢true}
 use lib.Dec.{eqb}
-use lib.ListN.{length, getD, List·getD-eq-default}
-use borrow.Author.Tests.{eqb-true, eqb-false, eq-eqb, ne-eqb, not-true}
-use Rattle.meaning.specs.RowsLaws.{which, and-l, and-r, and-both, false-not}
+use lib.ListN.{List·getD-eq-default}
+use borrow.Author.Tests.{eqb-false, ne-eqb, not-true}
+use Rattle.meaning.specs.RowsLaws.{and-l, and-r, and-both, false-not}
 use Rattle.meaning.specs.Tables.{Tables, mostDepth, stateCount, superState, initial}
-use Rattle.meaning.specs.Hierarchy.{up, levels, depth, atOrAbove, above, onTheWay, subState, leaf}
-use Rattle.meaning.specs.HierarchyLaws.{at-or-above-tells, leaf-tells, no-leaf-tells, up-super, up-add, depth-tells}
-use Rattle.meaning.specs.Rules.{AtOrAbove, SubState, Leaf, Rules}
+use Rattle.meaning.specs.Hierarchy.{up, levels, depth, atOrAbove, above, onTheWay, leaf}
+use Rattle.meaning.specs.HierarchyLaws.{at-or-above-tells, leaf-tells, no-leaf-tells, up-add, depth-tells}
+use Rattle.meaning.specs.Rules.{AtOrAbove, SubState, Rules}
 
 -- a is at or above s, as a computation on depths
 abbrev pub Over : Tables → ℕ → ℕ → Type 0
@@ -179,7 +179,7 @@ module _ (c : Tables) (R : Rules c) where
   unfolding onTheWay
   way-sub a b l e p = rw e at p
 
-  -- "the sub-state on the way": it is a sub-state of a, at or above s, and no other is
+  -- the sub-state on the way from a to s: it is a sub-state of a, at or above s, and no other is
   pub on-the-way : (a s : ℕ) → s < stateCount c → AtOrAbove c a s → a ≢ s → SubState c a (onTheWay c a s) × AtOrAbove c (onTheWay c a s) s
   on-the-way a s h r n =
       let p = over-tells a s .0 r in

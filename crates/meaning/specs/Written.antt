@@ -1,15 +1,15 @@
 -- The program of a chart: document 01, "The written text", parts 1 to 4.
 use Prim.Native.Nat.{ℕ, zero, suc, _+_, _-_, _/_, _%_}
-use mathlib.Core.Bool.{Bool, true, false, cond}
+use mathlib.Core.Bool.{Bool, true, cond}
 use mathlib.Core.List.{List, [], _∷_, _++_, map, flatMap}
 use lib.Dec.{eqb}
-use lib.IntN.{ℤ, natAbs}
+use lib.IntN.{natAbs}
 use Rattle.meaning.specs.Rows.{table}
 use Rattle.meaning.specs.Tables.{Tables, mostDepth, literalPlaces, moveCount, timerCount, pairCount, superState, initial, source, target, mark, literal, preset, pairNumber, pairState}
 use Rattle.meaning.specs.Hierarchy.{depth, leaf}
 use Rattle.meaning.specs.Layout.{groupWidth, groupFirst, flipFlops, code}
 use Rattle.meaning.specs.Literals.{kindOf, wanted}
-use Rattle.meaning.specs.Programs.{Test, Chain, Part, also, bracket, Body, Rung, TimerRung, Program}
+use Rattle.meaning.specs.Programs.{Test, Chain, also, bracket, Body, Rung, TimerRung, Program}
 use Rattle.meaning.specs.declared.Kind.{Kind}
 use Rattle.meaning.specs.declared.Kind.the-variants as K
 use Rattle.meaning.specs.declared.Operand.{Operand}

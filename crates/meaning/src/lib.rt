@@ -1,4 +1,4 @@
-// The declared types that the definitions in specs/ speak of, and a refusal's number and place.
+// The declared types that the definitions in specs/ and the promises of the calls speak of, and a refusal's number and place.
 ghost use mathlib.Core.Path.{_≡_};
 ghost use Rattle.meaning.specs.Refusals.{numberOf, placeOf};
 
@@ -25,6 +25,12 @@ pub enum Refusal {
 // What the check of the tables answers.
 pub enum Verdict {
     Accepted,
+    Refused(Refusal),
+}
+
+// What a run answers: how many scans it did, or why none.
+pub enum Ran {
+    Done(usize),
     Refused(Refusal),
 }
 

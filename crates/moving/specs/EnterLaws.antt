@@ -20,7 +20,7 @@ use Rattle.meaning.specs.FollowLaws.{Leads, stops, goes, depth-below, over-belo
 use Rattle.meaning.specs.Machine.{remembered, descend, follow, guide, reached, entered, moved}
 use Rattle.meaning.specs.MachineLaws.{target-known}
 use Rattle.moving.specs.Moves.{setAbove, setBelow}
-use Rattle.paths.specs.FlagsLaws.{remembered-take, is-table}
+use Rattle.paths.specs.WalkLaws.{remembered-take, is-table}
 
 pub length-above : (c : Tables) (k s : ℕ) (m : List ℕ) → length (setAbove c k s m) ≡ length m
 unfolding setAbove

@@ -17,9 +17,7 @@ pub fn remember(memory: &mut [u16], a: usize, s: usize)
     if 65535 < s {
         return;
     }
-    if a < memory.len() {
-        memory[a] = s as u16;
-    }
+    slices::put_number(memory, a, s as u16);
 }
 
 // "A move sets every super-state above its target to lead to the target."

@@ -18,7 +18,7 @@ use Rattle.meaning.specs.Literals.{kindOf, wanted, inputOn}
 use Rattle.meaning.specs.Check.{withinCounts, literalPasses, opposed, clash, overlaps}
 use Rattle.meaning.specs.declared.Kind.{Kind}
 use Rattle.meaning.specs.declared.Kind.the-variants.{Unused, Input, Timer, Unknown}
-use Rattle.pairing.specs.WordsLaws.{or-on, and-on, zero-on, same-bits}
+use Rattle.meaning.specs.BitLaws.{or-bit, and-bit, no-bit, same-bits}
 use Rattle.asks.specs.Words.{asksFor, asked, Words, WordsTo}
 use Rattle.overlap.specs.Shared.{shared, sharedAt}
 use Rattle.asks.specs.WordsLaws.{size-as, known, same-sign, own-sign}
@@ -45,13 +45,13 @@ last-shared p q r s p' q' r' s' e f g = sym (or-of (bitOr (bitOr (bitAnd p q') (
 shared-on : (p q r s p' q' r' s' n : ℕ) → inputOn (shared p q r s p' q' r' s') n
     ≡ ((((inputOn p n && inputOn q' n) || (inputOn q n && inputOn p' n)) || (inputOn r n && inputOn s' n)) || (inputOn s n && inputOn r' n))
 shared-on p q r s p' q' r' s' n = rw (
-  or-on (bitOr (bitOr (bitAnd p q') (bitAnd q p')) (bitAnd r s')) (bitAnd s r') n,
-  or-on (bitOr (bitAnd p q') (bitAnd q p')) (bitAnd r s') n,
-  or-on (bitAnd p q') (bitAnd q p') n,
-  and-on p q' n,
-  and-on q p' n,
-  and-on r s' n,
-  and-on s r' n,
+  or-bit (bitOr (bitOr (bitAnd p q') (bitAnd q p')) (bitAnd r s')) (bitAnd s r') n,
+  or-bit (bitOr (bitAnd p q') (bitAnd q p')) (bitAnd r s') n,
+  or-bit (bitAnd p q') (bitAnd q p') n,
+  and-bit p q' n,
+  and-bit q p' n,
+  and-bit r s' n,
+  and-bit s r' n,
 )
 
 -- signs that differ
@@ -110,7 +110,7 @@ module _ (c : Tables) (i j : ℕ) where
 
       -- a bit that is shared
       no : (m : ℕ) → inputOn (shared p q r s p' q' r' s') m ≡ true → ⊥
-      no m f = true≢false (sym f ∙ ap (λ w. inputOn w m) e ∙ zero-on m)
+      no m f = true≢false (sym f ∙ ap (λ w. inputOn w m) e ∙ no-bit m)
 
       yes-first : (m : ℕ) → (inputOn p m && inputOn q' m) ≡ true → ⊥
       yes-first m f = no m (shared-on p q r s p' q' r' s' m ∙ or-l _ _ (or-l _ _ (or-l _ _ f)))
@@ -171,8 +171,8 @@ module _ (c : Tables) (i j : ℕ) where
       ]
 
       back : not (clash c i j) ≡ true → eqb (shared p q r s p' q' r' s') 0 ≡ true
-      back e = eq-eqb (shared p q r s p' q' r' s') 0 (same-bits 64 (shared p q r s p' q' r' s') 0 small (omega arith) (λ n h g.
-          false-by (inputOn (shared p q r s p' q' r' s') n) (λ f. true≢false (sym (bit n h g f) ∙ not-true (clash c i j) e)) ∙ sym (zero-on n)))
+      back e = eq-eqb (shared p q r s p' q' r' s') 0 (same-bits 64 (shared p q r s p' q' r' s') 0 small (omega arith) (λ n h.
+          false-by (inputOn (shared p q r s p' q' r' s') (suc n)) (λ f. true≢false (sym (bit (suc n) (omega arith) (omega arith) f) ∙ not-true (clash c i j) e)) ∙ sym (no-bit (suc n))))
 
   -- of a list with four words a move
   pub agree-tells : (l : List ℕ) → ((n : ℕ) → getD l n 0 < 2 ^ 64) → literalPasses c i ≡ true → WordsTo c (suc i) l → j < i

@@ -1,6 +1,6 @@
 -- Words of numbers, one a state: what is paired with the state itself, and what with a state at or above it.
 use mathlib.Core.Path.{_≡_}
-use Prim.Native.Nat.{ℕ, _<_, _≤_}
+use Prim.Native.Nat.{ℕ, suc, _<_, _≤_}
 use mathlib.Core.Bool.{Bool, _&&_}
 use mathlib.Core.List.{List}
 use lib.ListN.{length, getD}
@@ -32,8 +32,9 @@ Own ps ws = (n l : ℕ) → 1 ≤ n → n ≤ 64 → l < length ws → inputOn (
 abbrev pub Clear : List ℕ → Type 0
 Clear ws = (l : ℕ) → getD ws l 0 ≡ 0
 
-abbrev pub PairedWords : Tables → List ℕ → List ℕ → Type 0
-PairedWords c ps ws = (n l : ℕ) → 1 ≤ n → n ≤ 64 → l < stateCount c → inputOn (getD ws l 0) n ≡ paired c ps n l
+-- each state's word has the bit of each timer or output that is paired with it or with a state above it
+abbrev pub Worded : Tables → List ℕ → List ℕ → Type 0
+Worded c ps ws = (s n : ℕ) → s < stateCount c → n < 64 → inputOn (getD ws s 0) (suc n) ≡ paired c ps (suc n) s
 
 -- the states below s are done, and the others have their own numbers only
 abbrev pub Upto : Tables → List ℕ → List ℕ → ℕ → Type 0

@@ -1,7 +1,7 @@
--- A bit of a word, and what a state has from the states above it.
+-- What a state has from the states above it.
 use mathlib.Core.Path.{_≡_, refl, sym, ap, _∙_}
-use mathlib.Core.Logic.{_⊎_, inl, inr, _≢_}
-use Prim.Native.Nat.{ℕ, zero, suc, _+_, _*_, _-_, _/_, _%_, _^_, _<_, _≤_, min, max}
+use mathlib.Core.Logic.{inl, inr}
+use Prim.Native.Nat.{ℕ, zero, suc, _+_, _-_, _<_, _≤_}
 use native.Mathlib.Omega.{arith}
 use native.Mathlib.Decide.{ℕ-discrete, decLe}
 use mathlib.Core.Bool.{Bool, true, false, _&&_, _||_}
@@ -9,97 +9,16 @@ use mathlib.Core.List.{List}
 use lib.Dec.{eqb}
 use lib.ListN.{length, getD, set, length-set}
 use lib.Seq.{getD-set-same, getD-set-other}
-use lib.Bits.{bitOr, bitAnd, or-step, or-shr, and-step, and-shr}
-use lib.Pow.{pow-add, pow-lt, shl-shr, shl-exact, shr-shr}
-use native.Mathlib.Nat.{div-eq-of-lt, div-one}
-use borrow.Author.Tests.{eq-eqb, ne-eqb, eqb-true, eqb-false}
-use Rattle.meaning.specs.Rows.{some}
+use lib.Bits.{bitOr}
+use borrow.Author.Tests.{eq-eqb, ne-eqb, eqb-true}
 use Rattle.meaning.specs.RowsLaws.{which, same-test, and-l, and-r, and-both, or-cases, or-l, or-r, some-yes, some-intro}
-use Rattle.meaning.specs.Tables.{Tables, mostDepth, stateCount, superState, pairCount, pairNumber, pairState}
+use Rattle.meaning.specs.BitLaws.{or-bit}
+use Rattle.meaning.specs.Tables.{Tables, stateCount, superState, pairCount, pairNumber, pairState}
 use Rattle.meaning.specs.Hierarchy.{up, atOrAbove, paired}
 use Rattle.meaning.specs.HierarchyLaws.{at-or-above-tells, up-super, up-add}
 use Rattle.meaning.specs.Literals.{inputOn}
-use Rattle.meaning.specs.Rules.{AtOrAbove, HierarchyRule}
+use Rattle.meaning.specs.Rules.{AtOrAbove}
 use Rattle.pairing.specs.Words.{Tree, rowAt, own, Own, Upto}
-
--- the last bit of two numbers' or
-odd : (p x y : ℕ) → x < 2 → y < 2 → eqb ((p * 2 + max x y) % 2) 1 ≡ (eqb x 1 || eqb y 1)
-odd p zero zero h k = ap (λ z. eqb z 1) (let z : (p * 2 + 0) % 2 ≡ 0 = omega arith in z)
-odd p zero (suc zero) h k = ap (λ z. eqb z 1) (let z : (p * 2 + 1) % 2 ≡ 1 = omega arith in z)
-odd p (suc zero) zero h k = ap (λ z. eqb z 1) (let z : (p * 2 + 1) % 2 ≡ 1 = omega arith in z)
-odd p (suc zero) (suc zero) h k = ap (λ z. eqb z 1) (let z : (p * 2 + 1) % 2 ≡ 1 = omega arith in z)
-odd p (suc (suc x)) y h k = absurd (omega arith)
-odd p zero (suc (suc y)) h k = absurd (omega arith)
-odd p (suc zero) (suc (suc y)) h k = absurd (omega arith)
-
--- a bit of a | b
-pub or-on : (a b n : ℕ) → inputOn (bitOr a b) n ≡ (inputOn a n || inputOn b n)
-unfolding inputOn
-or-on a b n =
-    ap (λ w. eqb (w % 2) 1) (or-shr a b (n - 1) ∙ or-step (a / 2 ^ (n - 1)) (b / 2 ^ (n - 1)))
-    ∙ odd (bitOr (a / 2 ^ (n - 1) / 2) (b / 2 ^ (n - 1) / 2)) (a / 2 ^ (n - 1) % 2) (b / 2 ^ (n - 1) % 2) (omega arith) (omega arith)
-
--- the last bit of two numbers' and
-odd-and : (p x y : ℕ) → x < 2 → y < 2 → eqb ((p * 2 + min x y) % 2) 1 ≡ (eqb x 1 && eqb y 1)
-odd-and p zero zero h k = ap (λ z. eqb z 1) (let z : (p * 2 + 0) % 2 ≡ 0 = omega arith in z)
-odd-and p zero (suc zero) h k = ap (λ z. eqb z 1) (let z : (p * 2 + 0) % 2 ≡ 0 = omega arith in z)
-odd-and p (suc zero) zero h k = ap (λ z. eqb z 1) (let z : (p * 2 + 0) % 2 ≡ 0 = omega arith in z)
-odd-and p (suc zero) (suc zero) h k = ap (λ z. eqb z 1) (let z : (p * 2 + 1) % 2 ≡ 1 = omega arith in z)
-odd-and p (suc (suc x)) y h k = absurd (omega arith)
-odd-and p zero (suc (suc y)) h k = absurd (omega arith)
-odd-and p (suc zero) (suc (suc y)) h k = absurd (omega arith)
-
--- a bit of a & b
-pub and-on : (a b n : ℕ) → inputOn (bitAnd a b) n ≡ (inputOn a n && inputOn b n)
-unfolding inputOn
-and-on a b n =
-    ap (λ w. eqb (w % 2) 1) (and-shr a b (n - 1) ∙ and-step (a / 2 ^ (n - 1)) (b / 2 ^ (n - 1)))
-    ∙ odd-and (bitAnd (a / 2 ^ (n - 1) / 2) (b / 2 ^ (n - 1) / 2)) (a / 2 ^ (n - 1) % 2) (b / 2 ^ (n - 1) % 2) (omega arith) (omega arith)
-
--- a word's bits but the lowest are those of its half
-half-on : (w n : ℕ) → 1 ≤ n → inputOn w (suc n) ≡ inputOn (w / 2) n
-unfolding inputOn
-half-on w n h = let e : suc n - 1 ≡ 1 + (n - 1) = omega arith in ap (λ k. eqb (w / 2 ^ k % 2) 1) e ∙ ap (λ x. eqb (x % 2) 1) (sym (shr-shr w 1 (n - 1)))
-
--- the lowest bit
-first-on : (w : ℕ) → inputOn w 1 ≡ eqb (w % 2) 1
-unfolding inputOn
-first-on w = ap (λ x. eqb (x % 2) 1) (div-one w)
-
-same-digit : (v w : ℕ) → eqb (v % 2) 1 ≡ eqb (w % 2) 1 → v % 2 ≡ w % 2
-same-digit v w e = elim (which (eqb (w % 2) 1)) [
-  | inl f ↦ eqb-true (v % 2) 1 (e ∙ f) ∙ sym (eqb-true (w % 2) 1 f)
-  | inr f ↦ (let a = eqb-false (v % 2) 1 (e ∙ f) in let b = eqb-false (w % 2) 1 f in omega (arith, a, b))
-]
-
--- words with the same bits are the same
-pub same-bits : (k v w : ℕ) → v < 2 ^ k → w < 2 ^ k → ((n : ℕ) → 1 ≤ n → n ≤ k → inputOn v n ≡ inputOn w n) → v ≡ w
-same-bits zero v w h g f = omega arith
-same-bits (suc k) v w h g f =
-    let low : v % 2 ≡ w % 2 = same-digit v w (sym (first-on v) ∙ f 1 (omega arith) (omega arith) ∙ first-on w) in
-    let high : v / 2 ≡ w / 2 = same-bits k (v / 2) (w / 2) (omega arith) (omega arith) (λ n p q. sym (half-on v n p) ∙ f (suc n) (omega arith) (omega arith) ∙ half-on w n p) in
-    omega arith
-
--- the bit of one weight
-single : (k j : ℕ) → eqb (2 ^ k / 2 ^ j % 2) 1 ≡ eqb k j
-single k j = elim (decLe j k) [
-  | yes h ↦ (let z : k ≡ (k - j) + j = omega arith in
-      let f : 2 ^ k / 2 ^ j ≡ 2 ^ (k - j) = ap (λ x. 2 ^ x / 2 ^ j) z ∙ ap (λ x. x / 2 ^ j) (pow-add 2 (k - j) j) ∙ shl-shr (2 ^ (k - j)) j in
-      ap (λ x. eqb (x % 2) 1) f ∙ far (k - j) refl h)
-  | no h ↦ ap (λ x. eqb (x % 2) 1) (div-eq-of-lt (pow-lt {i = k} {j = j} (omega arith))) ∙ sym (ne-eqb k j (λ e. omega arith))
-]
-  where
-    far : (d : ℕ) → d ≡ k - j → j ≤ k → eqb (2 ^ d % 2) 1 ≡ eqb k j
-    far zero e h = sym (eq-eqb k j (omega arith))
-    far (suc d) e h = (let z : 2 ^ suc d % 2 ≡ 0 = omega arith in ap (λ x. eqb x 1) z) ∙ sym (ne-eqb k j (λ f. omega arith))
-
-pub weight-on : (n m : ℕ) → 1 ≤ n → n ≤ 64 → 1 ≤ m → inputOn (1 * 2 ^ (n - 1) % 18446744073709551616) m ≡ eqb n m
-unfolding inputOn
-weight-on n m h k g =
-    let f : 1 * 2 ^ (n - 1) % 18446744073709551616 ≡ 1 * 2 ^ (n - 1) = shl-exact {a = 1} 1 (n - 1) 64 (omega arith) (omega arith) in
-    let e : 1 * 2 ^ (n - 1) ≡ 2 ^ (n - 1) = omega arith in
-    ap (λ x. eqb (x / 2 ^ (m - 1) % 2) 1) (f ∙ e) ∙ single (n - 1) (m - 1) ∙ same-test (eqb (n - 1) (m - 1)) (eqb n m)
-    (λ q. let z = eqb-true (n - 1) (m - 1) q in eq-eqb n m (omega arith)) (λ q. eq-eqb (n - 1) (m - 1) (ap (λ x. x - 1) (eqb-true n m q)))
 
 -- ---- one row more
 
@@ -133,13 +52,6 @@ added ps ws n l i w a m e f h g = elim (ℕ-discrete l a) [
   | yes z ↦ rw (z, getD-set-same ws a w 0 (rw (sym z) h)) (rw f at g ∙ row-at (inputOn (getD ws a 0) n) (eqb (pairNumber ps i) n) (eqb (pairState ps i) a) (eq-eqb (pairState ps i) a (sym e)))
   | no z ↦ rw (getD-set-other ws a l w 0 z) (row-other ps (inputOn (getD ws l 0) n) n l i (λ p q. z (sym q ∙ sym e)))
 ]
-
-pub zero-on : (n : ℕ) → inputOn 0 n ≡ false
-unfolding inputOn
-zero-on n = let z : 0 / 2 ^ (n - 1) ≡ 0 = div-eq-of-lt (pos-pow (n - 1)) in ap (λ x. eqb (x % 2) 1) z
-  where
-    pos-pow : (k : ℕ) → 0 < 2 ^ k
-    pos-pow k = omega (arith, pow-lt {i = 0} {j = suc k} (omega arith))
 
 -- the root stays the root
 pub root-stays : (c : Tables) → superState c 0 ≡ 0 → (k : ℕ) → up c k 0 ≡ 0
@@ -250,7 +162,7 @@ inherited c ps ws s t h k e u = (below, above)
     below : (n l : ℕ) → 1 ≤ n → n ≤ 64 → l < s + 1 → l < stateCount c → inputOn (getD (set ws s (bitOr (getD ws s 0) (getD ws (superState c s) 0))) l 0) n ≡ paired c ps n l
     below n l p q g f = elim (ℕ-discrete l s) [
       | yes z ↦ rw (z, getD-set-same ws s (bitOr (getD ws s 0) (getD ws (superState c s) 0)) 0 within)
-          (or-on (getD ws s 0) (getD ws (superState c s) 0) n
+          (or-bit (getD ws s 0) (getD ws (superState c s) 0) n
           ∙ ap (λ b. b || inputOn (getD ws (superState c s) 0) n) (u .1 n s p q (omega arith) within)
           ∙ ap (λ b. own ps n s || b) (u .0 n (superState c s) p q smaller (omega (arith, smaller)))
           ∙ sym (paired-step c ps n s t k))

@@ -8,7 +8,7 @@ ghost use lib.Dec.{eqb};
 ghost use lib.Bits.{bitOr};
 ghost use Rattle.meaning.specs.Tables.{Tables, stateCount, superState};
 ghost use Rattle.meaning.specs.Literals.{inputOn};
-ghost use Rattle.pairing.specs.Words.{Tree, rowAt, Own, Clear, PairedWords};
+ghost use Rattle.pairing.specs.Words.{Tree, rowAt, Own, Clear, Worded};
 
 // The word with number n beside its own.
 fn with(w: u64, n: usize) -> u64
@@ -65,7 +65,7 @@ fn inherit(states: &[u16], s: usize, words: &mut [u64])
 // From the root down: a super-state has a smaller number than its sub-state, and so is done before it. The words are
 // lent, as many as there are states or more, and have no number yet.
 pub fn paired_words(states: &[u16], pairs: &[u16], words: &mut [u64])
-    ensures { λ _. ⌜ ((c : Tables) → c .states ≡ now (states .entry) → Tree c → stateCount c ≤ length (now (words .entry)) → Clear (now (words .entry)) → PairedWords c (now (pairs .entry)) (now (words .exit))) ⌝ }
+    ensures { λ _. ⌜ ((c : Tables) → c .states ≡ now (states .entry) → Tree c → stateCount c ≤ length (now (words .entry)) → Clear (now (words .entry)) → Worded c (now (pairs .entry)) (now (words .exit))) ⌝ }
 {
     own_words(pairs, words);
     let mut s = 1;

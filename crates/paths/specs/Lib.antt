@@ -1,5 +1,5 @@
-pub mod Flags
-pub mod FlagsLaws
+pub mod Walk
+pub mod WalkLaws
 pub mod Words
 pub mod WordsLaws
 pub mod Once

@@ -2,15 +2,12 @@
 use mathlib.Core.Path.{_≡_, sym, _∙_}
 use mathlib.Core.List.{List}
 use Prim.Native.Nat.{ℕ, suc, _<_, _≤_}
-use lib.ListN.{length, getD}
+use lib.ListN.{length}
 use Rattle.meaning.specs.Once.{Once, OnceSeen, is-once}
 use Rattle.meaning.specs.Machine.{remembered}
 use Rattle.meaning.specs.Literals.{inputOn}
-use Rattle.paths.specs.Flags.{on, walk}
+use Rattle.paths.specs.Walk.{walk}
 use Rattle.paths.specs.Words.{expiredAt}
-
-pub flag-once : (fs : List ℕ) (n : ℕ) → Once (λ r. r ≡ on fs n)
-flag-once fs n = is-once (on fs n)
 
 pub remembered-once : (m : List ℕ) (a : ℕ) → Once (λ r. r ≡ remembered m a)
 remembered-once m a = is-once (remembered m a)
@@ -18,15 +15,9 @@ remembered-once m a = is-once (remembered m a)
 pub active-leaf-once : (m : List ℕ) → Once (λ r. r ≡ walk (remembered m) 8 0)
 active-leaf-once m = is-once (walk (remembered m) 8 0)
 
-pub value-once : (vs : List ℕ) (i : ℕ) → Once (λ r. r ≡ getD vs i 0)
-value-once vs i = is-once (getD vs i 0)
-
 pub bit-at-once : (w i : ℕ) → Once (λ r. r ≡ inputOn w (suc i))
 bit-at-once w i = is-once (inputOn w (suc i))
 
 pub expired-of-once : (ps : List ℕ) (w : ℕ) (ts : List ℕ) (k : ℕ) → length ps ≤ 32 → k < length ps
     → OnceSeen (λ r. inputOn r (suc k)) (λ r. length ps ≤ 32 → (i : ℕ) → i < length ps → inputOn r (suc i) ≡ expiredAt ps w ts i)
 expired-of-once ps w ts k f h x y p q = p f k h ∙ sym (q f k h)
-
-pub word-once : (ws : List ℕ) (s : ℕ) → Once (λ r. r ≡ getD ws s 0)
-word-once ws s = is-once (getD ws s 0)

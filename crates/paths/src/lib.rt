@@ -1,40 +1,21 @@
-// What the active path tells, for any tables at all: the leaf, which timers run and are expired, which outputs are on.
+// What the active path tells, for any tables at all: the leaf, and which timers are expired.
 use tables::Chart;
 ghost use mathlib.Core.Path.{_≡_};
 ghost use mathlib.Core.Bool.{_&&_, _||_};
 ghost use lib.Dec.{eqb};
 ghost use Prim.Native.Nat.{ℕ, suc, _<_, _≤_, _^_};
-ghost use lib.ListN.{length, getD};
+ghost use lib.ListN.{length};
 ghost use Rattle.meaning.specs.Machine.{remembered};
 ghost use Rattle.meaning.specs.Literals.{inputOn};
 ghost use lib.Bits.{bitOr};
-ghost use Rattle.paths.specs.Flags.{on, walk};
+ghost use Rattle.paths.specs.Walk.{walk};
 ghost use Rattle.paths.specs.Words.{expiredAt};
-
-fn wide(x: u16) -> usize
-    ensures { λ r. ⌜ r ≡ x ⌝ }
-{
-    x as usize
-}
-
-// Whether byte n is 1.
-pub fn flag(flags: &[u8], n: usize) -> bool
-    ensures { λ r. ⌜ r ≡ on (now (flags .entry)) n ⌝ }
-{
-    if flags.len() <= n {
-        return false;
-    }
-    flags[n] == 1
-}
 
 // The sub-state remembered of a.
 pub fn remembered(memory: &[u16], a: usize) -> usize
     ensures { λ r. ⌜ r ≡ remembered (now (memory .entry)) a ⌝ }
 {
-    if memory.len() <= a {
-        return 0;
-    }
-    wide(memory[a])
+    slices::number(memory, a) as usize
 }
 
 // "Following these from the root gives the active path and the active leaf." A leaf remembers 0.
@@ -52,16 +33,6 @@ pub fn active_leaf(memory: &[u16]) -> usize
         k += 1;
     }
     s
-}
-
-// The value of a timer.
-pub fn value(values: &[u32], i: usize) -> u32
-    ensures { λ r. ⌜ r ≡ getD (now (values .entry)) i 0 ⌝ }
-{
-    if values.len() <= i {
-        return 0;
-    }
-    values[i]
 }
 
 // ---- words: timers and outputs count from 1, and number n is the bit of weight 2^(n-1)
@@ -88,7 +59,7 @@ fn is_expired(presets: &[u32], running: u64, timers: &[u32], i: usize) -> bool
     ensures { λ r. ⌜ r ≡ expiredAt (now (presets .entry)) running (now (timers .entry)) i ⌝ }
 {
     if bit_at(running, i) {
-        return value(presets, i) <= value(timers, i);
+        return slices::value(presets, i) <= slices::value(timers, i);
     }
     false
 }
@@ -118,14 +89,4 @@ pub fn expired_of(presets: &[u32], running: u64, timers: &[u32]) -> u64
         i += 1;
     }
     word
-}
-
-// The word of a state.
-pub fn word(words: &[u64], s: usize) -> u64
-    ensures { λ r. ⌜ r ≡ getD (now (words .entry)) s 0 ⌝ }
-{
-    if words.len() <= s {
-        return 0;
-    }
-    words[s]
 }

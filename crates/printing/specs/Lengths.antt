@@ -48,10 +48,10 @@ refusal-few : (r : Refusal) → length (refusalLine r) ≤ 50
 refusal-few r = rw (refusal-parts r) (end-few (bytes "REFUSED") (numberOf r) (placeOf r))
 
 text-few : (c : Tables) → pageVerdict c ≡ Accepted → length (chartText c) ≤ mostText
-text-few c e = leb-true (length (chartText c)) mostText (unfold roomCheck in (passed (roomCheck c) (ap isRefused (room-accepted e)) 0 (omega arith)))
+text-few c e = leb-true (length (chartText c)) mostText (unfold roomCheck in (passed (roomCheck c mostText) (ap isRefused (room-accepted e)) 0 (omega arith)))
   where
-    room-accepted : pageVerdict c ≡ Accepted → verdictOf (roomCheck c ∷ []) ≡ Accepted
-    room-accepted e = unfold pageVerdict verdict in (sym (go (checks c) (roomCheck c ∷ []) (ap isRefused (page-tables c e))) ∙ e)
+    room-accepted : pageVerdict c ≡ Accepted → verdictOf (roomCheck c mostText ∷ []) ≡ Accepted
+    room-accepted e = unfold pageVerdict verdict in (sym (go (checks c) (roomCheck c mostText ∷ []) (ap isRefused (page-tables c e))) ∙ e)
 
 pub refusal-short : (c : Tables) (xs : List ℕ) (r : Refusal) → length (printedOf c xs (Refused r)) ≤ mostPrinted
 unfolding printedOf

@@ -13,7 +13,7 @@ use Rattle.meaning.specs.Machine.{start, trace}
 use Rattle.meaning.specs.declared.Refusal.{Refusal}
 use Rattle.meaning.specs.declared.Verdict.{Verdict}
 use Rattle.meaning.specs.declared.Verdict.the-variants.{Accepted, Refused}
-use Rattle.format.specs.Printed.{chartText, roomCheck, scanLines, refusalLine}
+use Rattle.format.specs.Printed.{mostText, chartText, roomCheck, scanLines, refusalLine}
 use Rattle.ended.specs.Decimals.{signedOf}
 use Rattle.columns.specs.Low.{low16, low32}
 use Rattle.lines.specs.Put.{Put}
@@ -24,7 +24,7 @@ use Rattle.printing.specs.declared.Printed.{Printed}
 
 -- the refusals after FIELD
 unfoldable pub pageVerdict : Tables → Verdict
-pageVerdict c = verdictOf (checks c ++ (roomCheck c ∷ []))
+pageVerdict c = verdictOf (checks c ++ (roomCheck c mostText ∷ []))
 
 -- what is printed for tables, input words and a verdict
 unfoldable pub printedOf : Tables → List ℕ → Verdict → List ℕ

@@ -20,13 +20,13 @@ use Rattle.meaning.specs.Machine.{Seen, start, trace}
 use Rattle.meaning.specs.declared.Refusal.{Refusal}
 use Rattle.meaning.specs.declared.Verdict.{Verdict}
 use Rattle.meaning.specs.declared.Verdict.the-variants.{Accepted, Refused}
-use Rattle.format.specs.Printed.{chartText, roomCheck, scanLines}
+use Rattle.format.specs.Printed.{mostText, chartText, roomCheck, scanLines}
 use Rattle.chart.specs.Verdicts.{isRefused, stop, go}
 use Rattle.lent.specs.Slice.{left}
 use Rattle.results.specs.Results.{linesOf, lines-are}
 use Rattle.whole.specs.declared.Outcome.{Outcome}
 use Rattle.whole.specs.declared.Outcome.the-variants as O
-use Rattle.whole.specs.WrittenRan.{roomCheck as roomCheckAt, laterChecks, runVerdict, outcome, WrittenRan}
+use Rattle.whole.specs.WrittenRan.{laterChecks, runVerdict, outcome, WrittenRan}
 use Rattle.printing.specs.declared.Printed.{Printed}
 use Rattle.printing.specs.Print.{pageVerdict, printedOf, PrintedTo, TextPrinted}
 
@@ -45,7 +45,7 @@ page-tables c e = by (verdictOf (checks c)) refl
   where
     by : (w : Verdict) → verdictOf (checks c) ≡ w → verdictOf (checks c) ≡ Accepted
     by Accepted f = f
-    by (Refused q) f = sym (stop (checks c) (roomCheck c ∷ []) (ap isRefused f)) ∙ e
+    by (Refused q) f = sym (stop (checks c) (roomCheck c mostText ∷ []) (ap isRefused f)) ∙ e
 
 module _ (c : Tables) (xs l ws ls os : List ℕ) (full : length l ≡ 65536) (wide : length ws ≡ 65536) (same : length ls ≡ length xs) (alike : length os ≡ length xs) where
   abbrev scansChecks : List Check
@@ -56,18 +56,16 @@ module _ (c : Tables) (xs l ws ls os : List ℕ) (full : length l ≡ 65536) (wi
   unfolding scansCheck verdictOf firstFailing least
   scans-pass = rw (eq-eqb (length ls) (length xs) same, eq-eqb (length os) (length xs) alike)
 
-  same-room : roomCheckAt c (min (length l) (length ws)) ≡ roomCheck c
-  unfolding roomCheckAt roomCheck
-  same-room = let e : min (length l) (length ws) ≡ 65536 = omega arith in rw e
-
-  later-is : verdictOf (laterChecks c xs l ws ls os) ≡ verdictOf (roomCheck c ∷ [])
-  later-is = go scansChecks (roomCheckAt c (min (length l) (length ws)) ∷ []) scans-pass ∙ ap (λ (k : Check). verdictOf (k ∷ [])) same-room
+  later-is : verdictOf (laterChecks c xs l ws ls os) ≡ verdictOf (roomCheck c mostText ∷ [])
+  later-is =
+      let e : min (length l) (length ws) ≡ mostText = omega arith in
+      go scansChecks (roomCheck c (min (length l) (length ws)) ∷ []) scans-pass ∙ ap (λ n. verdictOf (roomCheck c n ∷ [])) e
 
   same-verdict : runVerdict c xs l ws ls os ≡ pageVerdict c
   unfolding pageVerdict
   same-verdict = elim (which (isRefused (verdictOf (checks c)))) [
-    | inl e ↦ stop (checks c) (laterChecks c xs l ws ls os) e ∙ sym (stop (checks c) (roomCheck c ∷ []) e)
-    | inr e ↦ go (checks c) (laterChecks c xs l ws ls os) e ∙ (later-is ∙ sym (go (checks c) (roomCheck c ∷ []) e))
+    | inl e ↦ stop (checks c) (laterChecks c xs l ws ls os) e ∙ sym (stop (checks c) (roomCheck c mostText ∷ []) e)
+    | inr e ↦ go (checks c) (laterChecks c xs l ws ls os) e ∙ (later-is ∙ sym (go (checks c) (roomCheck c mostText ∷ []) e))
   ]
 
   refused-by : (w : Verdict) (q : Refusal) → outcome c w ≡ O.Refused q → w ≡ Refused q

@@ -1,15 +1,15 @@
 -- What a scan keeps of a controller: its lengths, bytes that are 0 or 1, and no ET above its rung's time.
 use mathlib.Core.Path.{_≡_, refl, ap, _∙_}
-use Prim.Native.Nat.{ℕ, zero, suc, _+_, _-_, _≤_, _<_, min}
+use Prim.Native.Nat.{ℕ, suc, _+_, _-_, _≤_, _<_, min}
 use native.Mathlib.Omega.{arith}
 use native.Mathlib.Decide.{ℕ-discrete, decLe}
 use mathlib.Core.Bool.{Bool, true, false, cond, _&&_, _||_, false≢true}
 use mathlib.Core.List.{List, [], _∷_}
-use lib.ListN.{length, getD, set, length-set, List·getD-eq-default}
+use lib.ListN.{length, getD, length-set, List·getD-eq-default}
 use lib.Seq.{getD-set-same, getD-set-other}
-use Rattle.meaning.specs.RowsLaws.{and-l, and-r, and-both}
+use Rattle.meaning.specs.RowsLaws.{and-l, and-r, and-both, or-l, bit-small}
 use Rattle.meaning.specs.StoreLaws.{Bits, set-bits}
-use Rattle.meaning.specs.Programs.{Rung, TimerRung, Program, instructions, all, flipFlopFits, outputFits, storeFits, rungFits, fits}
+use Rattle.meaning.specs.Programs.{Rung, TimerRung, Program, all, flipFlopFits, outputFits, storeFits, rungFits, fits}
 use Rattle.meaning.specs.Scan.{Controller, Within, ValidController, blank, blockAt, changed, elapsed, ton, withIn, withPt, withFlipFlops, withBlock, withOutputs, withResult, stored, begun}
 use Rattle.meaning.specs.Effects.{bodyPasses, storeDone, storesDone, rungDone, rungsDone, withTime, timerRungDone, timerRungsDone, programDone}
 use Rattle.meaning.specs.declared.Block.{Block}
@@ -32,13 +32,9 @@ kept-all w = record { bits = λ h. h; size = refl; blocks = refl }
 kept-then : {u v w : Within} → Kept u v → Kept v w → Kept u w
 kept-then a b = record { bits = λ h. b .bits (a .bits h); size = b .size ∙ a .size; blocks = b .blocks ∙ a .blocks }
 
-one-or-none : (v : Bool) → cond v 1 0 ≤ 1
-one-or-none true = omega arith
-one-or-none false = omega arith
-
 stored-kept : (v : Bool) (o : Operand) (w : Within) → (flipFlopFits o || outputFits o) ≡ true → Kept w (stored v o w)
 unfolding stored withFlipFlops withOutputs flipFlopFits outputFits
-stored-kept v (Mx n) w e = record { bits = λ h. set-bits (w .controller .flipFlops) n (cond v 1 0) (one-or-none v) h; size = length-set (w .controller .flipFlops) n (cond v 1 0); blocks = refl }
+stored-kept v (Mx n) w e = record { bits = λ h. set-bits (w .controller .flipFlops) n (cond v 1 0) (bit-small v) h; size = length-set (w .controller .flipFlops) n (cond v 1 0); blocks = refl }
 stored-kept v (Ix n) w e = kept-all w
 stored-kept v (Qx n) w e = record { bits = λ h. h; size = refl; blocks = refl }
 stored-kept v (TimerQ n) w e = kept-all w
@@ -48,12 +44,8 @@ stored-kept v (Timer n) w e = kept-all w
 stored-kept v False w e = kept-all w
 stored-kept v True w e = kept-all w
 
-either : (a b : Bool) → a ≡ true → (a || b) ≡ true
-either true b e = refl
-either false b e = absurd (false≢true e)
-
 when-kept : (t v : Bool) (o : Operand) (w : Within) → flipFlopFits o ≡ true → Kept w (cond t (stored v o w) w)
-when-kept true v o w e = stored-kept v o w (either (flipFlopFits o) (outputFits o) e)
+when-kept true v o w e = stored-kept v o w (or-l (flipFlopFits o) (outputFits o) e)
 when-kept false v o w e = kept-all w
 
 store-kept : (v : Bool) (s : Operator) (w : Within) → storeFits s ≡ true → Kept w (storeDone v s w)

@@ -1,12 +1,12 @@
 -- No second answer of the run of a program, or of one scan of it.
-use mathlib.Core.Path.{_≡_, ap}
+use mathlib.Core.Path.{ap}
 use mathlib.Core.List.{List}
 use Prim.Native.Nat.{ℕ}
 use Rattle.meaning.specs.Once.{Once, three, four}
 use Rattle.meaning.specs.Scan.{Controller}
 use Rattle.meaning.specs.declared.Block.{Block}
 use Rattle.il.specs.Scans.{holding}
-use Rattle.programs.specs.declared.Ran.{Ran}
+use Rattle.meaning.specs.declared.Ran.{Ran}
 use Rattle.programs.specs.declared.Scanned.{Scanned}
 use Rattle.programs.specs.Runs.{ProgramRan, one-program-run, ProgramScanned, one-program-scan}
 

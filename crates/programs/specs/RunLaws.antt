@@ -26,8 +26,8 @@ use Rattle.judging.specs.Judged.{StatePasses, JudgedBy, restOf, isAccepted}
 use Rattle.block.specs.Called.{inItsTime}
 use Rattle.row.specs.Row.{inTime, RowScan, RowRun, runOf}
 use Rattle.row.specs.RowLaws.{row-scan-right, row-run-right}
-use Rattle.programs.specs.declared.Ran.{Ran}
-use Rattle.programs.specs.declared.Ran.the-variants.{Done, Refused}
+use Rattle.meaning.specs.declared.Ran.{Ran}
+use Rattle.meaning.specs.declared.Ran.the-variants.{Done, Refused}
 use Rattle.programs.specs.declared.Scanned.{Scanned}
 use Rattle.programs.specs.declared.Scanned.the-variants as One
 use Rattle.programs.specs.Runs.{Refuses, Accepts, Ends, ProgramRan, ProgramScanned, run-ends}

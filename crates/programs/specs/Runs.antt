@@ -1,10 +1,11 @@
 -- What the calls that run a program answer, and that each has no second answer.
-use mathlib.Core.Path.{_≡_, refl, sym, ap, ap₂, _∙_}
-use Prim.Native.Nat.{ℕ, _<_}
-use mathlib.Core.Bool.{Bool, true, false, false≢true}
-use mathlib.Core.List.{List, [], _∷_, map}
+use mathlib.Core.Path.{_≡_, sym, ap, ap₂, _∙_}
+use Prim.Native.Nat.{ℕ}
+use mathlib.Core.Bool.{true, false}
+use mathlib.Core.List.{List, map}
 use native.Mathlib.Omega.{arith}
 use lib.ListN.{length}
+use Rattle.meaning.specs.RowsLaws.{not-both}
 use Rattle.meaning.specs.Tables.{Tables, mostStep}
 use Rattle.meaning.specs.Rules.{Rules}
 use Rattle.meaning.specs.Machine.{Seen}
@@ -16,16 +17,14 @@ use Rattle.meaning.specs.Demands.{lastLeaf}
 use Rattle.meaning.specs.Literals.{between}
 use Rattle.meaning.specs.Programs.{Program, instructions, fits}
 use Rattle.meaning.specs.Scan.{Controller, ValidController, cleared, scanned, outputWord, scannedAll, outputTrace}
-use Rattle.meaning.specs.declared.Block.{Block}
 use Rattle.meaning.specs.declared.Refusal.{Refusal}
 use Rattle.meaning.specs.declared.Refusal.the-variants.{Size, Text, State, Scans}
 use Rattle.format.specs.Words.{words, AcceptedWords}
 use Rattle.format.specs.Places.{WordPlace}
 use Rattle.format.specs.WordLaws.{words-same, place-same}
 use Rattle.format.specs.Bytes.{words-run}
-use Rattle.il.specs.Scans.{holding}
-use Rattle.programs.specs.declared.Ran.{Ran}
-use Rattle.programs.specs.declared.Ran.the-variants.{Done, Refused}
+use Rattle.meaning.specs.declared.Ran.{Ran}
+use Rattle.meaning.specs.declared.Ran.the-variants.{Done, Refused}
 use Rattle.programs.specs.declared.Scanned.{Scanned}
 use Rattle.programs.specs.declared.Scanned.the-variants as One
 
@@ -63,30 +62,27 @@ pub data ProgramScanned (d : ℕ) (ws : List ℕ) (x : ℕ) (k : Controller) (r 
 
 -- ---- no second answer
 
-clash : {b : Bool} → b ≡ false → b ≡ true → ⊥
-clash e f = false≢true (sym e ∙ f)
-
 module _ {d : ℕ} {ws : List ℕ} {k : Controller} {n m : ℕ} where
   refuses-same : {q s : Refusal} → Refuses d ws k n m q → Refuses d ws k n m s → q ≡ s
   refuses-same (Refuses.step a e) (Refuses.step b f) = e ∙ sym f
-  refuses-same (Refuses.step a e) (Refuses.text b i h f) = absurd (clash a b)
-  refuses-same (Refuses.step a e) (Refuses.state b p g h v f) = absurd (clash a b)
-  refuses-same (Refuses.step a e) (Refuses.scans b p g h v z f) = absurd (clash a b)
-  refuses-same (Refuses.text a i h e) (Refuses.step b f) = absurd (clash b a)
+  refuses-same (Refuses.step a e) (Refuses.text b i h f) = absurd (not-both a b)
+  refuses-same (Refuses.step a e) (Refuses.state b p g h v f) = absurd (not-both a b)
+  refuses-same (Refuses.step a e) (Refuses.scans b p g h v z f) = absurd (not-both a b)
+  refuses-same (Refuses.text a i h e) (Refuses.step b f) = absurd (not-both b a)
   refuses-same (Refuses.text a i h e) (Refuses.text b j g f) = e ∙ ap Text (place-same AcceptedWords _ ws i j h g) ∙ sym f
   refuses-same (Refuses.text a i h e) (Refuses.state b p g l v f) = absurd (h .refused (p, g, l))
   refuses-same (Refuses.text a i h e) (Refuses.scans b p g l v z f) = absurd (h .refused (p, g, l))
-  refuses-same (Refuses.state a p g l v e) (Refuses.step b f) = absurd (clash b a)
+  refuses-same (Refuses.state a p g l v e) (Refuses.step b f) = absurd (not-both b a)
   refuses-same (Refuses.state a p g l v e) (Refuses.text b i h f) = absurd (h .refused (p, g, l))
   refuses-same (Refuses.state a p g l v e) (Refuses.state b s h o w f) = e ∙ sym f
   refuses-same (Refuses.state a p g l v e) (Refuses.scans b s h o w z f) = absurd (v (rw (words-same s p h g (o ∙ sym l)) at w))
-  refuses-same (Refuses.scans a p g l v z e) (Refuses.step b f) = absurd (clash b a)
+  refuses-same (Refuses.scans a p g l v z e) (Refuses.step b f) = absurd (not-both b a)
   refuses-same (Refuses.scans a p g l v z e) (Refuses.text b i h f) = absurd (h .refused (p, g, l))
   refuses-same (Refuses.scans a p g l v z e) (Refuses.state b s h o w f) = absurd (w (rw (words-same p s g h (l ∙ sym o)) at v))
   refuses-same (Refuses.scans a p g l v z e) (Refuses.scans b s h o w y f) = e ∙ sym f
 
   never : {p : Program} {q : Refusal} → Accepts d ws k n m p → Refuses d ws k n m q → ⊥
-  never a (Refuses.step b f) = clash b (a .step)
+  never a (Refuses.step b f) = not-both b (a .step)
   never a (Refuses.text b i h f) = h .refused (_, a .program, a .list)
   never {p} a (Refuses.state b s g l v f) = v (rw (words-same p s (a .program) g (a .list ∙ sym l)) at (a .state))
   never a (Refuses.scans b s g l v z f) = z (a .scans)

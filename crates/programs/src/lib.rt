@@ -1,17 +1,12 @@
 // The run of a program, given as instruction words, over a lent controller: flip-flop bytes and one row of timer blocks.
 use meaning::Block;
+use meaning::Ran;
 use meaning::Refusal;
 use meaning::Verdict;
 ghost use mathlib.Core.Path.{_≡_};
 ghost use Rattle.il.specs.Scans.{holding};
 ghost use Rattle.programs.specs.Runs.{ProgramRan, ProgramScanned};
 ghost use Rattle.programs.specs.RunLaws.{ranFor, scannedFor};
-
-// A run answers how many scans it did.
-pub enum Ran {
-    Done(usize),
-    Refused(Refusal),
-}
 
 // A scan answers its output word.
 pub enum Scanned {

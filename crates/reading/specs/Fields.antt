@@ -1,17 +1,17 @@
 -- A field, byte after byte: the phase after its last byte tells whether its content is a decimal of its type, and which.
 use mathlib.Core.Path.{_≡_, refl, sym, ap, _∙_}
 use mathlib.Core.Logic.{_⊎_, inl, inr}
-use Prim.Native.Nat.{ℕ, zero, suc, _+_, _*_, _-_, _^_, _≤_, _<_}
+use Prim.Native.Nat.{ℕ, zero, suc, _+_, _*_, _-_, _≤_, _<_}
 use native.Mathlib.Omega.{arith}
 use native.Mathlib.Decide.{ℕ-discrete, decLe}
 use mathlib.Core.Bool.{Bool, true, false, _&&_, cond, true≢false, false≢true}
-use mathlib.Core.List.{List, [], _∷_, _++_}
+use mathlib.Core.List.{List, [], _∷_}
 use lib.ListN.{length, getD, take, drop}
-use lib.Dec.{leb, ltb, eqb}
+use lib.Dec.{leb, eqb}
 use lib.IntN.{ℤ, pos, negsuc, negℤ}
-use borrow.Author.Tests.{lt-ltb, le-ltb, le-leb, lt-leb, leb-true, eqb-true, eq-eqb, ne-eqb, eqb-false, ltb-false, ltb-true}
+use borrow.Author.Tests.{le-leb, lt-leb, leb-true, eq-eqb, ne-eqb}
 use Rattle.meaning.specs.Literals.{between}
-use Rattle.meaning.specs.RowsLaws.{which, and-l, and-r, and-both}
+use Rattle.meaning.specs.RowsLaws.{which, and-l, and-r}
 use Rattle.format.specs.Text.{decimal}
 use Rattle.format.specs.Records.{same, spelt, decimalWithin, negative, fieldValue, content}
 use Rattle.format.specs.Decimals.{huge, digit}
@@ -24,7 +24,7 @@ use Rattle.ended.specs.Decimals.{encoded, decimalOf}
 use Rattle.field.specs.FieldLaws.{grown-low, grown-high, grown-past, grown-digit}
 use Rattle.reading.specs.Decimals.{goesOn, goes-end, goes-digit, goes-other, goes-past, goes-zero, goes-low, within-none, within-other, within-digit, within-past}
 
--- a stored number: "a negative number is stored as its 64-bit two's complement"
+-- a stored number: a negative one as its 64-bit two's complement
 unfoldable pub stored : ℤ → ℕ
 stored (pos n) = n
 stored (negsuc n) = top - n

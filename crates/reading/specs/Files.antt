@@ -1,10 +1,9 @@
 -- The seven files: `feed` over a whole file and `finish` answer as the checks of format's Printed.antt do, and store the file's numbers.
 use mathlib.Core.Path.{_≡_, refl, sym, ap, _∙_}
-use mathlib.Core.Logic.{_⊎_}
-use Prim.Native.Nat.{ℕ, zero, suc, _≤_, _<_, max}
+use Prim.Native.Nat.{ℕ, zero, suc, _≤_, _<_}
 use native.Mathlib.Omega.{arith}
-use mathlib.Core.Bool.{true, _&&_, not, cond}
-use mathlib.Core.List.{List, [], _∷_, _++_, map}
+use mathlib.Core.Bool.{true, not}
+use mathlib.Core.List.{List, [], map}
 use lib.ListN.{length, getD}
 use lib.Seq.{sets}
 use lib.Dec.{leb, ltb, eqb, eqb·suc-zero}
@@ -15,14 +14,14 @@ use Rattle.meaning.specs.RowsLaws.{least-same}
 use Rattle.meaning.specs.Tables.{stateRow, moveRow, pairRow}
 use Rattle.meaning.specs.Check.{Check, firstFailing}
 use Rattle.format.specs.Records.{Column, records, recordPasses, numbers}
-use Rattle.format.specs.Printed.{naturals, unsigned, signed16, recordAt, fileCheck, frameCheck, scansFileCheck}
+use Rattle.format.specs.Printed.{naturals, unsigned, signed16, fileCheck, frameCheck, scansFileCheck}
 use Rattle.records.specs.declared.Answer.{Answer}
-use Rattle.records.specs.declared.Answer.the-variants.{Rows, Refused}
+use Rattle.records.specs.declared.Answer.the-variants.{Rows}
 use Rattle.passing.specs.declared.Reader.{Reader}
 use Rattle.field.specs.Field.{top}
 use Rattle.ended.specs.Decimals.{signedOf}
 use Rattle.passing.specs.Passing.{fresh}
-use Rattle.records.specs.Automaton.{emits, feedAll, emitted, atEnd, answerOf, Fed, Finished}
+use Rattle.records.specs.Automaton.{emits, feedAll, atEnd, answerOf, Fed, Finished}
 use Rattle.records.specs.Pieces.{sets-fed}
 use Rattle.reading.specs.Fields.{stored}
 use Rattle.reading.specs.Reading.{mostOf, belowOf, limited, answered, read-answer, read-passing, read-numbers}

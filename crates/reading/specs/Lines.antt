@@ -1,24 +1,25 @@
 -- A record, byte after byte: it passes or not by its fields, and stores their numbers.
 use mathlib.Core.Path.{_≡_, refl, sym, ap, _∙_}
 use mathlib.Core.Logic.{_⊎_, inl, inr}
-use Prim.Native.Nat.{ℕ, zero, suc, _+_, _*_, _-_, _≤_, _<_}
+use Prim.Native.Nat.{ℕ, zero, suc, _+_, _*_, _-_, _<_}
 use native.Mathlib.Omega.{arith}
-use native.Mathlib.Decide.{ℕ-discrete, decLe}
+use native.Mathlib.Decide.{ℕ-discrete}
 use mathlib.Core.Bool.{Bool, true, false, _&&_, not, cond, true≢false, false≢true, and-false}
-use mathlib.Core.List.{List, [], _∷_, _++_, flatMap, append-assoc, append-nil}
+use mathlib.Core.List.{List, [], _∷_, _++_, flatMap, append-nil}
 use lib.ListN.{length}
-use lib.Dec.{leb, ltb, eqb, eqb·suc-suc, eqb·suc-zero, eqb·zero-suc}
-use borrow.Author.Tests.{lt-ltb, le-ltb, le-leb, lt-leb, leb-true, eqb-true, eq-eqb, ne-eqb, eqb-false, ltb-false, ltb-true}
+use lib.Dec.{leb, eqb, eqb·suc-suc, eqb·suc-zero, eqb·zero-suc}
+use borrow.Author.Tests.{lt-ltb, lt-leb, eq-eqb, ne-eqb}
 use Rattle.meaning.specs.Programs.{all}
 use Rattle.meaning.specs.Literals.{between}
-use Rattle.meaning.specs.RowsLaws.{which, and-l, and-r, and-both}
+use Rattle.meaning.specs.RowsLaws.{which, and-l, and-r}
 use Rattle.format.specs.Records.{front, pieces, withoutCr}
+use Rattle.format.specs.LineLaws.{oneLine}
 use Rattle.field.specs.declared.Phase.{Phase}
 use Rattle.field.specs.declared.Phase.the-variants.{Fresh, Empty, Quote, Minus, Number, Closed, Return, Bad}
 use Rattle.ended.specs.declared.Decimal.{Decimal}
 use Rattle.ended.specs.declared.Decimal.the-variants.{Is, IsNot}
 use Rattle.passing.specs.declared.Reader.{Reader}
-use Rattle.field.specs.Field.{top, grown, begun, numberAfter, phaseAfter}
+use Rattle.field.specs.Field.{grown, begun, numberAfter, phaseAfter}
 use Rattle.ended.specs.Decimals.{decimalOf, returned, untouched}
 use Rattle.passing.specs.Passing.{up, moved, bad, ends, fits, passed}
 use Rattle.records.specs.Automaton.{taken, fieldEnd, feedByte, shown, fieldEmits, emits, feedAll, emitted}
@@ -134,17 +135,13 @@ unfolding restPasses decimalOf
 bad-passes most below l [] = refl
 bad-passes most below l (f ∷ fs) = rw (bad-phase most below f) (and-false (eqb (length fs) l))
 
--- no LF
-abbrev pub Plain : List ℕ → Type 0
-Plain q = all (λ b. not (eqb b 10)) q ≡ true
+plain-head : (b : ℕ) (q : List ℕ) → oneLine (b ∷ q) ≡ true → b ≡ 10 → ⊥
+unfolding oneLine all
+plain-head b q h e = false≢true (sym (ap not (eq-eqb b 10 e)) ∙ and-l (not (eqb b 10)) (oneLine q) h)
 
-plain-head : (b : ℕ) (q : List ℕ) → Plain (b ∷ q) → b ≡ 10 → ⊥
-unfolding all
-plain-head b q h e = false≢true (sym (ap not (eq-eqb b 10 e)) ∙ and-l (not (eqb b 10)) (all (λ c. not (eqb c 10)) q) h)
-
-plain-tail : (b : ℕ) (q : List ℕ) → Plain (b ∷ q) → Plain q
-unfolding all
-plain-tail b q h = and-r (not (eqb b 10)) (all (λ c. not (eqb c 10)) q) h
+plain-tail : (b : ℕ) (q : List ℕ) → oneLine (b ∷ q) ≡ true → oneLine q ≡ true
+unfolding oneLine all
+plain-tail b q h = and-r (not (eqb b 10)) (oneLine q) h
 
 ends-not : (b : ℕ) → (b ≡ 44 → ⊥) → (b ≡ 10 → ⊥) → (b ≡ 13 → ⊥) → ends b ≡ false
 ends-not b f g h = rw (ne-eqb b 44 f, ne-eqb b 10 g, ne-eqb b 13 h)
@@ -270,7 +267,7 @@ module _ (r : Reader) (room : r .record_no < r .limit) where
   unfolding closed
   cut-end p l a = elim (return-byte p l a) [ inl e ↦ rw (e .1) | inr e ↦ rw e (rw (bad-byte l a 10)) ]
 
-  cut-more : (lf : Bool) (d : ℕ) (q : List ℕ) → Plain (d ∷ q) → (p : Phase) (l a : ℕ) → Failed r (closed lf (feedAll (feedByte (at p l a) 13) (d ∷ q)))
+  cut-more : (lf : Bool) (d : ℕ) (q : List ℕ) → oneLine (d ∷ q) ≡ true → (p : Phase) (l a : ℕ) → Failed r (closed lf (feedAll (feedByte (at p l a) 13) (d ∷ q)))
   unfolding feedAll
   cut-more lf d q h p l a = elim (return-byte p l a) [
     | inl e ↦ rw (e .1, return-other l (e .0) d (plain-head d q h)) (failed lf false q l (e .0) [] [] refl)
@@ -286,7 +283,7 @@ module _ (r : Reader) (room : r .record_no < r .limit) where
   unfolding pieces closed
   line-lf p l a e = line-return p l a e
 
-  line-13 : (lf : Bool) (q : List ℕ) → Plain q → (p : Phase) (l a : ℕ) → returned p ≡ false → Line lf (13 ∷ q) p l a
+  line-13 : (lf : Bool) (q : List ℕ) → oneLine q ≡ true → (p : Phase) (l a : ℕ) → returned p ≡ false → Line lf (13 ∷ q) p l a
   unfolding trimmed withoutCr feedAll emitted
   line-13 false [] h p l a e = rw (cut-passes p l []) (cut-end p l a)
   line-13 false (d ∷ q) h p l a e = rw (cut-passes p l (d ∷ q)) (cut-more false d q h p l a)
@@ -338,7 +335,7 @@ module _ (r : Reader) (room : r .record_no < r .limit) where
   line-none true p l a e = rw (closed-live true p l a e) (line-end p l a e)
   line-none false p l a e = rw (closed-live false p l a e) (line-end p l a e)
 
-  pub line : (lf : Bool) (q : List ℕ) → Plain q → (p : Phase) (l a : ℕ) → returned p ≡ false → Line lf q p l a
+  pub line : (lf : Bool) (q : List ℕ) → oneLine q ≡ true → (p : Phase) (l a : ℕ) → returned p ≡ false → Line lf q p l a
   line lf [] h p l a e = line-none lf p l a e
   line lf (b ∷ q) h p l a e = elim (ℕ-discrete b 44) [
     | yes y ↦ rw y (line-44 lf q p l a (λ k n. line lf q (plain-tail b q h) Empty k n refl))

@@ -1,9 +1,9 @@
 -- The numbers of a file whose records pass are of its type, and what is stored of them gives them back.
 use mathlib.Core.Path.{_≡_, refl, sym, ap, _∙_}
-use mathlib.Core.Logic.{_⊎_, inl, inr}
-use Prim.Native.Nat.{ℕ, zero, suc, _+_, _-_, _≤_, _<_}
+use mathlib.Core.Logic.{inl, inr}
+use Prim.Native.Nat.{ℕ, zero, suc, _-_, _≤_, _<_}
 use native.Mathlib.Omega.{arith}
-use mathlib.Core.Bool.{Bool, true, false, _&&_, cond, true≢false, false≢true}
+use mathlib.Core.Bool.{Bool, true, true≢false, false≢true}
 use mathlib.Core.List.{List, [], _∷_, map, flatMap}
 use lib.ListN.{length, getD, drop}
 use lib.Dec.{leb, ltb, eqb}
@@ -13,8 +13,7 @@ use Rattle.meaning.specs.Programs.{all}
 use Rattle.meaning.specs.Literals.{between}
 use Rattle.meaning.specs.RowsLaws.{which, and-l, and-r, and-both}
 use Rattle.format.specs.Text.{decimal}
-use Rattle.format.specs.Records.{Column, pieces, records, content, fields, same, spelt, decimalWithin, negative, decimalFits, fieldValue, recordPasses, numbers}
-use Rattle.format.specs.Printed.{naturals}
+use Rattle.format.specs.Records.{Column, fields, same, spelt, decimalWithin, negative, decimalFits, fieldValue, recordPasses}
 use Rattle.format.specs.DecodeLaws as decode
 use Rattle.format.specs.LineLaws.{all-append}
 use Rattle.field.specs.Field.{top}

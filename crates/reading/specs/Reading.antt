@@ -7,22 +7,20 @@ use mathlib.Core.Bool.{Bool, true, false, _&&_, not, cond, true≢false, false�
 use mathlib.Core.List.{List, [], _∷_, _++_, map, flatMap, map-append}
 use lib.ListN.{length, getD, drop, length-map, List·getD-eq-default}
 use lib.Dec.{leb, ltb, eqb, eqb·suc-suc}
-use lib.IntN.{ℤ, pos, negsuc, natAbs}
-use borrow.Author.Tests.{lt-ltb, le-ltb, le-leb, lt-leb, leb-true, eq-eqb, ne-eqb, ltb-false, ltb-true, eqb-true}
+use borrow.Author.Tests.{leb-true, eq-eqb, ne-eqb, ltb-false, ltb-true, eqb-true}
 use Rattle.meaning.specs.Programs.{all}
 use Rattle.meaning.specs.Literals.{between}
 use Rattle.meaning.specs.Rows.{least}
-use Rattle.meaning.specs.RowsLaws.{which, and-l, and-r, and-both, least-at, least-none, true-not, false-not, false-by}
+use Rattle.meaning.specs.RowsLaws.{which, and-l, and-r, least-at, least-none, true-not, false-not, false-by}
 use Rattle.meaning.specs.Check.{Check, firstFailing}
 use Rattle.meaning.specs.declared.Refusal.the-variants as R
-use Rattle.format.specs.Records.{Column, front, pieces, ended, records, content, fields, same, spelt, decimalWithin, negative, decimalFits, fieldValue, recordPasses, numbers}
+use Rattle.format.specs.Records.{Column, pieces, records, content, fields, same, spelt, decimalWithin, negative, decimalFits, fieldValue, recordPasses, numbers}
 use Rattle.format.specs.Text.{decimal}
-use Rattle.format.specs.Printed.{unsigned, signed16, mostScans, recordAt, fileCheck, frameCheck, scansFileCheck}
+use Rattle.format.specs.Printed.{recordAt}
 use Rattle.format.specs.Decimals.{huge}
 use Rattle.field.specs.declared.Phase.{Phase}
 use Rattle.field.specs.declared.Phase.the-variants.{Fresh, Empty}
 use Rattle.ended.specs.declared.Decimal.{Decimal}
-use Rattle.ended.specs.declared.Decimal.the-variants.{Is, IsNot}
 use Rattle.records.specs.declared.Answer.{Answer}
 use Rattle.records.specs.declared.Answer.the-variants.{Rows, Refused}
 use Rattle.passing.specs.declared.Reader.{Reader}
@@ -30,10 +28,10 @@ use Rattle.field.specs.Field.{top}
 use Rattle.ended.specs.Decimals.{decimalOf}
 use Rattle.passing.specs.Passing.{fresh}
 use Rattle.records.specs.Automaton.{shown, emits, feedAll, emitted, atEnd, answerOf}
-use Rattle.reading.specs.Decimals.{within-other, within-none}
+use Rattle.reading.specs.Decimals.{within-other}
 use Rattle.reading.specs.Fields.{stored, fitsIn, told, phaseAll, field-after, fresh-after}
 use Rattle.reading.specs.Lines.{pieces-cons, isNumber, restPasses, restNumbers}
-use Rattle.reading.specs.Whole.{joined, joined-pieces, noLf, plain-pieces, start, upshot, recordNumbers, Told, told-file}
+use Rattle.reading.specs.Whole.{joined-pieces, plain-pieces, upshot, recordNumbers, Told, told-file}
 
 -- ---- a column's numbers
 

@@ -1,32 +1,32 @@
 -- A file, record after record, from a fresh reader to its answer.
 use mathlib.Core.Path.{_≡_, refl, sym, ap, _∙_}
-use mathlib.Core.Logic.{_⊎_, inl, inr}
-use Prim.Native.Nat.{ℕ, zero, suc, _+_, _-_, _≤_, _<_}
+use mathlib.Core.Logic.{inl, inr}
+use Prim.Native.Nat.{ℕ, suc, _+_, _-_, _≤_, _<_}
 use native.Mathlib.Omega.{arith}
 use native.Mathlib.Numerals.{add-one}
-use mathlib.Core.Bool.{Bool, true, false, _&&_, _||_, not, cond, true≢false, false≢true}
+use mathlib.Core.Bool.{true, false, _&&_, not, cond, true≢false, false≢true}
 use mathlib.Core.List.{List, [], _∷_, _++_, flatMap, append-assoc, append-nil}
 use lib.ListN.{length}
 use lib.Dec.{leb, ltb, eqb}
-use borrow.Author.Tests.{lt-ltb, le-ltb, le-leb, lt-leb, leb-true, leb-false, not-true, eq-eqb, ne-eqb, ltb-false, ltb-true, eqb-true}
+use borrow.Author.Tests.{lt-ltb, le-leb, leb-true, leb-false, not-true, ltb-false, ltb-true, eqb-true}
 use Rattle.meaning.specs.Programs.{all}
-use Rattle.meaning.specs.RowsLaws.{which, and-l, and-r, and-both}
+use Rattle.meaning.specs.RowsLaws.{which, and-l, and-r}
 use Rattle.meaning.specs.declared.Refusal.the-variants as R
 use Rattle.format.specs.Records.{front, pieces, withoutCr, ended}
-use Rattle.field.specs.declared.Phase.{Phase}
-use Rattle.field.specs.declared.Phase.the-variants.{Fresh, Empty, Quote, Minus, Number, Closed, Return, Bad}
+use Rattle.format.specs.LineLaws.{oneLine}
+use Rattle.field.specs.declared.Phase.the-variants.{Fresh, Bad}
 use Rattle.ended.specs.declared.Decimal.{Decimal}
 use Rattle.ended.specs.declared.Decimal.the-variants.{Is, IsNot}
 use Rattle.records.specs.declared.Answer.{Answer}
 use Rattle.records.specs.declared.Answer.the-variants.{Rows, Refused}
 use Rattle.passing.specs.declared.Reader.{Reader}
-use Rattle.field.specs.Field.{top, phaseAfter}
-use Rattle.ended.specs.Decimals.{decimalOf, returned, untouched, failed}
+use Rattle.field.specs.Field.{top}
+use Rattle.ended.specs.Decimals.{decimalOf, untouched}
 use Rattle.passing.specs.Passing.{up, moved, bad, ends, fits, passed}
 use Rattle.records.specs.Automaton.{taken, fieldEnd, feedByte, emits, feedAll, emitted, atEnd, answerOf}
 use Rattle.records.specs.StepLaws.{fresh-emits-lf}
 use Rattle.records.specs.Pieces.{feed-append, emitted-append}
-use Rattle.reading.specs.Lines.{pieces-cons, trimmed, restPasses, restNumbers, Passed, Failed, Outcome, closed, after-live, bad-byte, Plain, line}
+use Rattle.reading.specs.Lines.{pieces-cons, trimmed, restPasses, restNumbers, Passed, Failed, closed, after-live, bad-byte, line}
 
 -- ---- the bytes of a file by its LFs
 
@@ -49,16 +49,13 @@ joined-pieces (b ∷ bs) = (let c = pieces-cons 10 bs in let ih : joined (c .0 �
       | inr e ↦ rw (e, c .2, joined-front b (c .0) (c .1), ih)
     ])
 
-abbrev pub noLf : List ℕ → Bool
-noLf q = all (λ b. not (eqb b 10)) q
-
-front-plain : (b : ℕ) (ps : List (List ℕ)) → eqb b 10 ≡ false → all noLf ps ≡ true → all noLf (front b ps) ≡ true
-unfolding all front
+front-plain : (b : ℕ) (ps : List (List ℕ)) → eqb b 10 ≡ false → all oneLine ps ≡ true → all oneLine (front b ps) ≡ true
+unfolding oneLine all front
 front-plain b [] e h = rw e
 front-plain b (p ∷ ps) e h = rw e h
 
-pub plain-pieces : (bs : List ℕ) → all noLf (pieces 10 bs) ≡ true
-unfolding all pieces front
+pub plain-pieces : (bs : List ℕ) → all oneLine (pieces 10 bs) ≡ true
+unfolding oneLine all pieces front
 plain-pieces [] = refl
 plain-pieces (b ∷ bs) = elim (which (eqb b 10)) [
   | inl e ↦ rw e (plain-pieces bs)
@@ -123,20 +120,20 @@ byte-touched s b e = elim (which (leb (s .limit) (s .record_no))) [
   ])
 ]
 
-touched : (q : List ℕ) (s : Reader) → noLf q ≡ true → untouched (s .phase) ≡ false → untouched (feedAll s q .phase) ≡ false
-unfolding feedAll all
+touched : (q : List ℕ) (s : Reader) → oneLine q ≡ true → untouched (s .phase) ≡ false → untouched (feedAll s q .phase) ≡ false
+unfolding feedAll oneLine all
 touched [] s h u = u
-touched (b ∷ q) s h u = touched q (feedByte s b) (and-r (not (eqb b 10)) (noLf q) h) (byte-touched s b (not-true (eqb b 10) (and-l (not (eqb b 10)) (noLf q) h)))
+touched (b ∷ q) s h u = touched q (feedByte s b) (and-r (not (eqb b 10)) (oneLine q) h) (byte-touched s b (not-true (eqb b 10) (and-l (not (eqb b 10)) (oneLine q) h)))
 
 -- the end of the file after some bytes
 end-closed : (s : Reader) → untouched (s .phase) ≡ false → atEnd s ≡ closed false s
 unfolding atEnd closed
 end-closed s u = rw u
 
-end-line : (b : ℕ) (q : List ℕ) (s : Reader) → noLf (b ∷ q) ≡ true → atEnd (feedAll s (b ∷ q)) ≡ closed false (feedAll s (b ∷ q))
-unfolding feedAll all
+end-line : (b : ℕ) (q : List ℕ) (s : Reader) → oneLine (b ∷ q) ≡ true → atEnd (feedAll s (b ∷ q)) ≡ closed false (feedAll s (b ∷ q))
+unfolding feedAll oneLine all
 end-line b q s h = end-closed (feedAll (feedByte s b) q)
-    (touched q (feedByte s b) (and-r (not (eqb b 10)) (noLf q) h) (byte-touched s b (not-true (eqb b 10) (and-l (not (eqb b 10)) (noLf q) h))))
+    (touched q (feedByte s b) (and-r (not (eqb b 10)) (oneLine q) h) (byte-touched s b (not-true (eqb b 10) (and-l (not (eqb b 10)) (oneLine q) h))))
 
 -- ---- the file
 
@@ -173,7 +170,7 @@ module _ (r : Reader) (fits : r .limit ≤ top) where
   unfolding upshot
   failing k a bs x xs e h g = refused k a bs (x ∷ xs) e (rw (g, h))
 
-  last-passes : (k a b : ℕ) (q : List ℕ) → noLf (b ∷ q) ≡ true → ltb k (r .limit) ≡ true → restPasses (r .most) (r .below) Fresh (r .more) (pieces 44 (b ∷ q)) ≡ true
+  last-passes : (k a b : ℕ) (q : List ℕ) → oneLine (b ∷ q) ≡ true → ltb k (r .limit) ≡ true → restPasses (r .most) (r .below) Fresh (r .more) (pieces 44 (b ∷ q)) ≡ true
       → Passed (start r k a) (closed false (feedAll (start r k a) (b ∷ q))) (emitted (start r k a) (b ∷ q) ++ emits (feedAll (start r k a) (b ∷ q)) 10) (recordNumbers r (b ∷ q))
       → Told r k a (b ∷ q) ((b ∷ q) ∷ [])
   unfolding upshot answerOf flatMap
@@ -183,7 +180,7 @@ module _ (r : Reader) (fits : r .limit ≤ top) where
   }
 
   -- the last record, which the end of the file ends
-  told-last : (k a b : ℕ) (q : List ℕ) → noLf (b ∷ q) ≡ true → Told r k a (b ∷ q) ((b ∷ q) ∷ [])
+  told-last : (k a b : ℕ) (q : List ℕ) → oneLine (b ∷ q) ≡ true → Told r k a (b ∷ q) ((b ∷ q) ∷ [])
   unfolding trimmed answerOf recordNumbers
   told-last k a b q h = elim (which (ltb k (r .limit))) [
     | inr e ↦ over k a (b ∷ q) (b ∷ q) [] e (λ z. let y : suc (length q) ≡ 0 = ap length z in omega arith)
@@ -227,7 +224,7 @@ module _ (r : Reader) (fits : r .limit ≤ top) where
       let m : feedByte (feedAll (start r k a) p) 10 ≡ moved r Bad k (s .left) (s .at) = sym g ∙ f in
       rw (feed-line (start r k a) p rest, m, dead-all r rest k (s .left) (s .at)) (dead-answer r k (s .left) (s .at))
 
-  told-more : (k a : ℕ) (p rest : List ℕ) (xs : List (List ℕ)) → noLf p ≡ true → ((n : ℕ) → Told r (suc k) n rest xs) → Told r k a (p ++ (10 ∷ rest)) (withoutCr p ∷ xs)
+  told-more : (k a : ℕ) (p rest : List ℕ) (xs : List (List ℕ)) → oneLine p ≡ true → ((n : ℕ) → Told r (suc k) n rest xs) → Told r k a (p ++ (10 ∷ rest)) (withoutCr p ∷ xs)
   unfolding trimmed closed recordNumbers
   told-more k a p rest xs h ih = elim (which (ltb k (r .limit))) [
     | inr e ↦ over k a (p ++ (10 ∷ rest)) (withoutCr p) xs e (some-bytes p rest)
@@ -238,9 +235,9 @@ module _ (r : Reader) (fits : r .limit ≤ top) where
         ])
   ]
 
-  pub told-file : (ps : List (List ℕ)) → all noLf ps ≡ true → (k a : ℕ) → Told r k a (joined ps) (ended ps)
+  pub told-file : (ps : List (List ℕ)) → all oneLine ps ≡ true → (k a : ℕ) → Told r k a (joined ps) (ended ps)
   unfolding joined ended all
   told-file [] h k a = told-none k a
   told-file ([] ∷ []) h k a = told-none k a
-  told-file ((b ∷ q) ∷ []) h k a = told-last k a b q (and-l (noLf (b ∷ q)) true h)
-  told-file (p ∷ q ∷ ps) h k a = told-more k a p (joined (q ∷ ps)) (ended (q ∷ ps)) (and-l (noLf p) (all noLf (q ∷ ps)) h) (λ n. told-file (q ∷ ps) (and-r (noLf p) (all noLf (q ∷ ps)) h) (suc k) n)
+  told-file ((b ∷ q) ∷ []) h k a = told-last k a b q (and-l (oneLine (b ∷ q)) true h)
+  told-file (p ∷ q ∷ ps) h k a = told-more k a p (joined (q ∷ ps)) (ended (q ∷ ps)) (and-l (oneLine p) (all oneLine (q ∷ ps)) h) (λ n. told-file (q ∷ ps) (and-r (oneLine p) (all oneLine (q ∷ ps)) h) (suc k) n)

@@ -1,7 +1,7 @@
 -- What a reader of records does with a byte, with many, and with the end of the file. That this is what document 01 says of the whole file is in crate reading.
 use mathlib.Core.Path.{_≡_}
 use Prim.Native.Nat.{ℕ}
-use mathlib.Core.Bool.{Bool, _&&_, _||_, cond}
+use mathlib.Core.Bool.{_&&_, _||_, cond}
 use mathlib.Core.List.{List, [], _∷_, _++_}
 use lib.Dec.{leb, ltb, eqb}
 use lib.Seq.{sets}

@@ -8,7 +8,7 @@ use mathlib.Core.Bool.{Bool, true, false, _&&_, cond}
 use mathlib.Core.List.{List, []}
 use lib.ListN.{length, set, getD, drop, length-set}
 use lib.Seq.{sets, drop-cons, length-sets}
-use lib.Dec.{ltb, leb, eqb}
+use lib.Dec.{ltb, eqb}
 use native.Mathlib.Decide.{decLe}
 use borrow.Author.Tests.{lt-ltb, lt-leb, ne-eqb, ltb-true, ltb-false, leb-true, eqb-true}
 use Rattle.meaning.specs.RowsLaws.{which, and-l, and-r}

@@ -1,11 +1,10 @@
 -- No second answer of any function of this crate: the reader, or its answer, and the numbers at exit.
-use mathlib.Core.Path.{_≡_, sym, _∙_}
+use mathlib.Core.Path.{sym, _∙_}
 use mathlib.Core.List.{List}
 use Prim.Native.Nat.{ℕ}
-use Rattle.meaning.specs.Once.{Once, two, is-once}
+use Rattle.meaning.specs.Once.{Once, two}
 use Rattle.passing.specs.declared.Reader.{Reader}
 use Rattle.records.specs.declared.Answer.{Answer}
-use Rattle.passing.specs.Passing.{fresh}
 use Rattle.records.specs.Automaton.{Fed, Finished}
 
 pub feed-once : (r : Reader) (bytes out : List ℕ) → Once {A = Reader × List ℕ} (λ (s, m). Fed r bytes out s m)

@@ -3,8 +3,7 @@
 use passing::LF;
 use passing::Reader;
 ghost use mathlib.Core.Path.{_≡_};
-ghost use mathlib.Core.Bool.{true, false, _&&_};
-ghost use lib.ListN.{set};
+ghost use mathlib.Core.Bool.{false, _&&_};
 ghost use lib.Dec.{eqb};
 ghost use Rattle.ended.specs.Decimals.{returned};
 ghost use Rattle.records.specs.Automaton.{answerOf, FieldEnded, FedByte, Fed, Finished};
@@ -14,14 +13,6 @@ ghost use Rattle.records.specs.Bare.{ready, Went, WentOn};
 pub enum Answer {
     Rows(usize),
     Refused(meaning::Refusal),
-}
-
-fn store(out: &mut [u64], at: usize, v: u64)
-    ensures { λ _. ⌜ now (out .exit) ≡ set (now (out .entry)) at v ⌝ }
-{
-    if at < out.len() {
-        out[at] = v;
-    }
 }
 
 // LF after CR.
@@ -46,7 +37,7 @@ fn end_field(r: Reader, b: u8, out: &mut [u64]) -> Reader
         let d = ended::decimal_of(phase);
         match d {
             ended::Decimal::Is(v) => {
-                store(out, r.at, v);
+                slices::put_word(out, r.at, v);
                 return passing::pass(r, b, passing::one_more(r.at));
             }
             ended::Decimal::IsNot => {
@@ -104,7 +95,7 @@ fn feed_bare(r: Reader, bytes: &[u8], from: usize, out: &mut [u64]) -> Stand
         if last <= i {
             return Stand { next: i, reader: s };
         }
-        store(out, s.at, u.value);
+        slices::put_word(out, s.at, u.value);
         s = passing::pass(s, bytes[last], passing::one_more(s.at));
         i = last + 1;
     }
@@ -156,7 +147,7 @@ fn told(r: Reader) -> Answer
     Answer::Rows(r.record_no)
 }
 
-// The end of the file ends the last record; "nothing after the last LF" is none, and a CR there is no end.
+// The end of the file ends the last record; nothing after the last LF is no record, and a CR there is no end.
 pub fn finish(r: Reader, out: &mut [u64]) -> Answer
     ensures { λ a. ⌜ Finished r (now (out .entry)) a (now (out .exit)) ⌝ }
 {

@@ -15,7 +15,7 @@ use base.Logic.{ent, sep, ex}
 use base.Fml.{Lft, GName, Share, Fml, fsep, flft, fdead, fobs, fauth, flent, fobor}
 use prog.Wp.{Heap}
 use ghost.Atoms.{Atoms, sem}
-use types.Kit.{Given, ‵, raw, _⊛_, some, later, _$_, _∵_, !, qed, move, use1, use3, drop, split, pick, rewrite, fsplit, fjoin, feqI, frame, await, updating, now as at-once, show, done}
+use types.Kit.{Given, ‵, _⊛_, some, later, _$_, _∵_, !, qed, move, use1, use3, drop, split, pick, rewrite, fsplit, fjoin, feqI, frame, await, updating, now as at-once, show, done}
 use types.Tokens.{lent-back}
 use types.SemTy.{cells, Arr}
 use types.Share.{arr-parts}
@@ -24,7 +24,7 @@ use denote.Shadow.{pureL, pureI}
 use denote.Memory.{mem, shares}
 use denote.Ref.{RefT}
 use denote.Slice.{sliceVal, MutSlice, ShrSlice, heres, Room, finally, at-slice, codedHoleys}
-use denote.Lend.{Held, lends-slice, slice-back, LentShrs, lends-shr-slice}
+use denote.Lend.{Held, lends-slice, slice-back, lends-shr-slice}
 use denote.Index.{row, whole-out, whole-in, opens-slice, closes-slice}
 
 module _ (R : RattleType) (κ κ′ : Lft) (q : Share) (γ : GName) (b o m : ℕ) where

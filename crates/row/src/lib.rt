@@ -112,9 +112,9 @@ pub fn run(
 {
     let mut n: usize = 0;
     while n < inputs.len() {
-        let x = il::input(inputs, n);
+        let x = slices::word(inputs, n);
         let w = scan(words, step, x, ff, blocks);
-        il::put_word(results, n, w);
+        slices::put_word(results, n, w);
         n += 1;
     }
     n

@@ -55,17 +55,11 @@ pub fn pair_passes(states: &[u16], many: usize, pairs: &[u16], i: usize) -> bool
     pair_after(pairs, i - 1, i)
 }
 
-fn wide(x: u32) -> usize
-    ensures { λ r. ⌜ r ≡ x ⌝ }
-{
-    x as usize
-}
-
 // Output pairs go by the number of outputs.
 pub fn output_pair_passes(chart: Chart, states: &[u16], output_pairs: &[u16], i: usize) -> bool
     ensures { λ r. ⌜ ((c : Tables) → c .outputs ≡ chart .outputs → c .states ≡ now (states .entry) → r ≡ pairPasses c (c .outputs) (now («output_pairs» .entry)) i) ⌝ }
 {
-    pair_passes(states, wide(chart.outputs), output_pairs, i)
+    pair_passes(states, chart.outputs as usize, output_pairs, i)
 }
 
 // ---- 7 MOVE

@@ -3,7 +3,7 @@ use mathlib.Core.Path.{_≡_, refl, sym, ap, _∙_}
 use mathlib.Core.Logic.{_≢_, inl, inr}
 use mathlib.Core.Bool.{true, false, false≢true}
 use mathlib.Core.List.{List, [], _∷_, _++_, flatMap, append-nil}
-use Prim.Native.Nat.{ℕ, zero, suc, _+_, _≤_, _<_, min}
+use Prim.Native.Nat.{ℕ, zero, suc, _+_, _<_, min}
 use native.Mathlib.Omega.{arith}
 use lib.ListN.{length, length-append}
 use lib.Dec.{eqb}
@@ -12,7 +12,7 @@ use Rattle.meaning.specs.RowsLaws.{which}
 use Rattle.meaning.specs.Tables.{Tables, stateCount, initial, source, target, mark}
 use Rattle.meaning.specs.Hierarchy.{leaf}
 use Rattle.meaning.specs.Layout.{flipFlops}
-use Rattle.meaning.specs.Rules.{SubState, Rules}
+use Rattle.meaning.specs.Rules.{SubState}
 use Rattle.meaning.specs.TreeLaws.{initial-sub, initial-leaf}
 use Rattle.meaning.specs.Programs.{Test, loadOf, chainOf, bodyOf, rungOf}
 use Rattle.meaning.specs.Written.{groupBits, pathBits, bitStore, literalTests, stateTests, chain, orBody, andBody, initialStores, storesFrom, moveStores, rungWith, moveRungs, copyRungs}
@@ -60,7 +60,7 @@ module _ {c : Tables} {ss : List ℕ} {y : Layout} (d : Drawn c ss y) where
     | inr f ↦ (initial-sub c (d .rules) s h f, rw f)
   ]
 
--- "mark 1 nothing"
+-- mark 1 stores nothing at or below the target
 pub no-stores : (c : Tables) (m t : ℕ) → m ≢ 0 → storesFrom c m t ≡ []
 unfolding storesFrom
 no-stores c zero t h = absurd (h refl)

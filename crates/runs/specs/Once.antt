@@ -5,7 +5,7 @@ use lib.IntN.{ℤ}
 use Rattle.meaning.specs.Once.{Once, four}
 use Rattle.tables.specs.Given.{tablesOf}
 use Rattle.tables.specs.declared.Chart.{Chart}
-use Rattle.lent.specs.declared.Ran.{Ran}
+use Rattle.meaning.specs.declared.Ran.{Ran}
 use Rattle.runs.specs.Runs.{ChartRan, one-run}
 
 pub run-chart-once : (h : Chart) (ss : List ℕ) (ms : List ℤ) (ps ts os xs l leaves outputs : List ℕ)

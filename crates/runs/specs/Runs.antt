@@ -19,8 +19,8 @@ use Rattle.meaning.specs.Verdict.{accepted-exactly}
 use Rattle.meaning.specs.declared.Refusal.{Refusal}
 use Rattle.meaning.specs.declared.Verdict.{Verdict}
 use Rattle.meaning.specs.declared.Verdict.the-variants.{Accepted, Refused}
-use Rattle.lent.specs.declared.Ran.{Ran}
-use Rattle.lent.specs.declared.Ran.the-variants as A
+use Rattle.meaning.specs.declared.Ran.{Ran}
+use Rattle.meaning.specs.declared.Ran.the-variants as A
 use Rattle.lent.specs.Slice.{laterVerdict, answer, left, LentRun}
 
 -- the refusals in their order: the tables' 1 to 11, STATE, SCANS

@@ -1,6 +1,6 @@
 // The run of a chart over many scans, for any tables and any lent slices: what is not to be run is refused, in document
 // 01's order.
-use lent::Ran;
+use meaning::Ran;
 use meaning::Verdict;
 use tables::Chart;
 ghost use Rattle.tables.specs.Given.{tablesOf};

@@ -7,7 +7,7 @@ use Rattle.meaning.specs.Once.{Once, two}
 use Rattle.meaning.specs.Tables.{Tables, stateCount}
 use Rattle.meaning.specs.Rules.{Rules}
 use Rattle.meaning.specs.Machine.{seenAt}
-use Rattle.paths.specs.Words.{Worded}
+use Rattle.pairing.specs.Words.{Worded}
 
 pub show-once : (c : Tables) (ws : List ℕ) (l i : ℕ) (ls os : List ℕ) → Rules c → Worded c (c .outputPairs) ws → l < stateCount c
     → Once {A = List ℕ × List ℕ} (λ (m, n). (k : Tables) → Rules k → Worded k (k .outputPairs) ws → l < stateCount k → (m ≡ set ls i l) × (n ≡ set os i (seenAt k l .outputs)))

@@ -5,15 +5,7 @@ ghost use lib.ListN.{set};
 ghost use Rattle.meaning.specs.Tables.{Tables, stateCount};
 ghost use Rattle.meaning.specs.Rules.{Rules};
 ghost use Rattle.meaning.specs.Machine.{seenAt};
-ghost use Rattle.paths.specs.Words.{Worded};
-
-fn put_word(words: &mut [u64], i: usize, w: u64)
-    ensures { λ _. ⌜ now (words .exit) ≡ set (now (words .entry)) i w ⌝ }
-{
-    if i < words.len() {
-        words[i] = w;
-    }
-}
+ghost use Rattle.pairing.specs.Words.{Worded};
 
 // What is seen in the leaf l stands at place i of the results.
 pub fn show(shows: &[u64], l: usize, i: usize, leaves: &mut [u16], outputs: &mut [u64])
@@ -21,5 +13,5 @@ pub fn show(shows: &[u64], l: usize, i: usize, leaves: &mut [u16], outputs: &mut
         → (now (leaves .exit) ≡ set (now (leaves .entry)) i l) × (now (outputs .exit) ≡ set (now (outputs .entry)) i (seenAt c l .outputs))) ⌝ }
 {
     moving::remember(leaves, i, l);
-    put_word(outputs, i, paths::word(shows, l));
+    slices::put_word(outputs, i, slices::word(shows, l));
 }

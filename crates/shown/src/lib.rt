@@ -20,7 +20,7 @@ fn code_at(flip_flops: &[u8], first: u16, width: u8) -> usize
     while 0 < i {
         i -= 1;
         code *= 2;
-        if paths::flag(flip_flops, (first as usize) + i) {
+        if values::flip_flop(flip_flops, (first as usize) + i) {
             code += 1;
         }
     }

@@ -10,7 +10,7 @@ use Rattle.meaning.specs.Hierarchy.{leaf, subState}
 use Rattle.meaning.specs.Layout.{code}
 use Rattle.meaning.specs.Machine.{remembered}
 use Rattle.meaning.specs.Lent.{coded, lentCode, stateOf}
-use Rattle.paths.specs.Words.{Worded}
+use Rattle.pairing.specs.Words.{Worded}
 use Rattle.machine.specs.Held.{held}
 
 -- what the lent slice l gives state a to remember

@@ -24,7 +24,7 @@ use Rattle.meaning.specs.FollowLaws.{super-known}
 use Rattle.meaning.specs.Machine.{remembered, timerValue, activeLeaf}
 use Rattle.meaning.specs.MachineLaws.{Sound, remembered-table}
 use Rattle.meaning.specs.Lent.{superStatesBelow, lentLength, coded, lentCode, lentMemory, stateOf, lentCodes, codePasses, timerPasses, statePasses}
-use Rattle.paths.specs.FlagsLaws.{remembered-take, is-table}
+use Rattle.paths.specs.WalkLaws.{remembered-take, is-table}
 use Rattle.layout.specs.Laid.{laidStates, givenCode, row}
 use Rattle.layout.specs.LaidLaws.{code-at}
 use Rattle.stateread.specs.Codes.{codeIn, codesIn, entryOf, Codes, Wanted, foundFrom, Found}

@@ -3,8 +3,7 @@ use mathlib.Core.Path.{_≡_, sym, _∙_}
 use mathlib.Core.Bool.{Bool, true}
 use mathlib.Core.List.{List}
 use Prim.Native.Nat.{ℕ, _≤_}
-use lib.ListN.{getD, set}
-use Rattle.meaning.specs.Once.{Once, OnceSeen, is-once}
+use Rattle.meaning.specs.Once.{Once, OnceSeen}
 use Rattle.meaning.specs.Tables.{Tables, stateCount}
 use Rattle.meaning.specs.Rules.{Rules}
 use Rattle.meaning.specs.Lent.{lentLength, statePasses}
@@ -17,12 +16,6 @@ state-count-once c ss e f x y p q = p .1 c e f ∙ sym (q .1 c e f)
 pub state-length-once : (c : Tables) (ss ps : List ℕ) → c .states ≡ ss → c .presets ≡ ps → Rules c
     → Once (λ r. (k : Tables) → k .states ≡ ss → k .presets ≡ ps → Rules k → r ≡ lentLength k)
 state-length-once c ss ps e f g x y p q = p c e f g ∙ sym (q c e f g)
-
-pub code-at-once : (cs : List ℕ) (s : ℕ) → Once (λ r. r ≡ getD cs s 0)
-code-at-once cs s = is-once (getD cs s 0)
-
-pub put-value-once : (l : List ℕ) (i v : ℕ) → Once (λ m. m ≡ set l i v)
-put-value-once l i v = is-once (set l i v)
 
 pub state-passes-once : (c : Tables) (h : Chart) (ss ps ts cs l ws m t rs : List ℕ) → c .step ≡ h .step → c .states ≡ ss → c .presets ≡ ps → c .timerPairs ≡ ts → Rules c
     → Codes c cs → StateRoom c ws m t rs

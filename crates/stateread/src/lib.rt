@@ -53,31 +53,6 @@ pub fn state_length(states: &[u16], presets: &[u32]) -> usize
     super_states(states) + presets.len()
 }
 
-fn wide(x: u16) -> u32
-    ensures { λ r. ⌜ r ≡ x ⌝ }
-{
-    x as u32
-}
-
-// The code of s.
-pub fn code_at(codes: &[u16], s: usize) -> u32
-    ensures { λ r. ⌜ r ≡ getD (now (codes .entry)) s 0 ⌝ }
-{
-    if codes.len() <= s {
-        return 0;
-    }
-    wide(codes[s])
-}
-
-// A value at place i.
-pub fn put_value(values: &mut [u32], i: usize, v: u32)
-    ensures { λ _. ⌜ now (values .exit) ≡ set (now (values .entry)) i v ⌝ }
-{
-    if i < values.len() {
-        values[i] = v;
-    }
-}
-
 // What stands in the slice for the super-state a; and it has found no sub-state yet: n, which is no state's number.
 fn want(
     states: &[u16],
@@ -96,7 +71,7 @@ fn want(
     if tables::initial(states, a) == 0 {
         return at;
     }
-    put_value(wants, a, paths::value(state, at));
+    slices::put_value(wants, a, slices::value(state, at));
     moving::remember(memory, a, n);
     at + 1
 }
@@ -126,7 +101,7 @@ fn find(states: &[u16], codes: &[u16], wants: &[u32], s: usize, memory: &mut [u1
         return;
     }
     let a = tables::super_state(states, s);
-    if code_at(codes, s) == paths::value(wants, a) {
+    if (slices::number(codes, s) as u32) == slices::value(wants, a) {
         moving::remember(memory, a, s);
     }
 }
@@ -152,7 +127,7 @@ fn copy_timers(state: &[u32], from: usize, count: usize, timers: &mut [u32])
     }
     let mut i = 0;
     while i < count {
-        put_value(timers, i, paths::value(state, from + i));
+        slices::put_value(timers, i, slices::value(state, from + i));
         i += 1;
     }
 }
@@ -184,6 +159,6 @@ pub fn state_passes(
     }
     copy_timers(state, from, presets.len(), timers);
     pairing::paired_words(states, timer_pairs, runs);
-    let running = paths::word(runs, paths::active_leaf(memory));
+    let running = slices::word(runs, paths::active_leaf(memory));
     staterules::values_pass(chart.step, presets, running, timers)
 }

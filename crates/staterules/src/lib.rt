@@ -55,9 +55,9 @@ pub fn values_pass(step: u32, presets: &[u32], running: u64, timers: &[u32]) -> 
     while i < presets.len() {
         if !value_passes(
             step,
-            paths::value(presets, i),
+            slices::value(presets, i),
             paths::bit_at(running, i),
-            paths::value(timers, i),
+            slices::value(timers, i),
         ) {
             return false;
         }

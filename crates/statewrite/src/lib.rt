@@ -16,7 +16,7 @@ ghost use Rattle.stateread.specs.Codes.{codeIn, codesIn, Codes};
 fn code_of(codes: &[u16], memory: &[u16], a: usize) -> u32
     ensures { λ r. ⌜ r ≡ getD (now (codes .entry)) (remembered (now (memory .entry)) a) 0 ⌝ }
 {
-    stateread::code_at(codes, paths::remembered(memory, a))
+    slices::number(codes, paths::remembered(memory, a)) as u32
 }
 
 fn write_code(
@@ -34,7 +34,7 @@ fn write_code(
     if tables::initial(states, a) == 0 {
         return at;
     }
-    stateread::put_value(state, at, code_of(codes, memory, a));
+    slices::put_value(state, at, code_of(codes, memory, a));
     at + 1
 }
 
@@ -58,7 +58,7 @@ fn write_timers(timers: &[u32], count: usize, from: usize, state: &mut [u32])
 {
     let mut i = 0;
     while i < count {
-        stateread::put_value(state, from + i, paths::value(timers, i));
+        slices::put_value(state, from + i, slices::value(timers, i));
         i += 1;
     }
 }

@@ -27,8 +27,8 @@ use Rattle.meaning.specs.declared.Refusal.{Refusal}
 use Rattle.meaning.specs.declared.Refusal.the-variants as R
 use Rattle.meaning.specs.declared.Verdict.{Verdict}
 use Rattle.meaning.specs.declared.Verdict.the-variants.{Accepted, Refused}
-use Rattle.lent.specs.declared.Ran.{Ran}
-use Rattle.lent.specs.declared.Ran.the-variants as A
+use Rattle.meaning.specs.declared.Ran.{Ran}
+use Rattle.meaning.specs.declared.Ran.the-variants as A
 use Rattle.lent.specs.Slice.{laterVerdict, answer, left}
 use Rattle.lent.specs.RunLaws.{later}
 use Rattle.runs.specs.Runs.{runVerdict, ChartRan, front-accepted, run-by}

@@ -14,8 +14,8 @@ use Rattle.meaning.specs.Machine.{Seen, trace, after}
 use Rattle.meaning.specs.declared.Refusal.{Refusal}
 use Rattle.meaning.specs.declared.Verdict.{Verdict}
 use Rattle.meaning.specs.declared.Verdict.the-variants.{Accepted, Refused}
-use Rattle.lent.specs.declared.Ran.{Ran}
-use Rattle.lent.specs.declared.Ran.the-variants as A
+use Rattle.meaning.specs.declared.Ran.{Ran}
+use Rattle.meaning.specs.declared.Ran.the-variants as A
 use Rattle.lent.specs.Slice.{answer, left}
 use Rattle.runs.specs.Runs.{runVerdict, ChartRan}
 use Rattle.steps.specs.Steps.{chartStepChecks, stepVerdict, shown, ChartStepped}

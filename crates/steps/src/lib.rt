@@ -1,5 +1,5 @@
 // One scan of a chart, for any tables and any lent state: what is not to be run is refused, in document 01's order.
-use lent::Ran;
+use meaning::Ran;
 use meaning::Refusal;
 use tables::Chart;
 ghost use Rattle.tables.specs.Given.{tablesOf};

@@ -27,9 +27,6 @@ pair-state-once ps i = is-once (pairState ps i)
 pub cell-once : (ms : List ℤ) (i j : ℕ) → Once (λ r. (c : Tables) → c .moves ≡ ms → r ≡ cell c i j)
 cell-once ms i j = moves-once (λ c. cell c i j) ms
 
-pub size-once : (v : ℤ) → Once (λ r. r ≡ natAbs v)
-size-once v = is-once (natAbs v)
-
 pub kind-once : (v : ℤ) → Once (λ r. r ≡ kindOf (natAbs v))
 kind-once v = is-once (kindOf (natAbs v))
 

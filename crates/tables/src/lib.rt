@@ -110,7 +110,7 @@ pub fn cell(moves: &[i16], i: usize, j: usize) -> i16
 
 // A number without its sign. "negated only after the range check so that -32,768 refuses": the least number has no
 // opposite of its width, and its size is of no kind.
-pub fn size(v: i16) -> u16
+fn size(v: i16) -> u16
     ensures { λ r. ⌜ r ≡ natAbs v ⌝ }
 {
     if v < -32767 {

@@ -65,7 +65,7 @@ pub fn pass(text: &[u8], out: &mut [u32]) -> Outcome
     while from < text.len() {
         let to = line_end(text, from);
         if to == text.len() {
-            return Outcome::Stopped(from);
+            return Outcome::Stopped(from); // a line ends in LF
         }
         let l = line::line_of(&text[from..to]);
         p = page::turn(p, l);

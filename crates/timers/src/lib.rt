@@ -56,7 +56,7 @@ fn time_row(step: u32, most: &[u32], goes_on: u64, i: usize, timers: &mut [u32])
     if i < timers.len() {
         timers[i] = grown(
             step,
-            paths::value(most, i),
+            slices::value(most, i),
             paths::bit_at(goes_on, i),
             timers[i],
         );

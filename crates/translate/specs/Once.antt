@@ -5,7 +5,7 @@ use lib.IntN.{ℤ}
 use Rattle.meaning.specs.Once.{Once, two}
 use Rattle.tables.specs.Given.{tablesOf}
 use Rattle.tables.specs.declared.Chart.{Chart}
-use Rattle.writer.specs.declared.Written.{Written}
+use Rattle.format.specs.declared.Written.{Written}
 use Rattle.translate.specs.Texts.{ChartWritten, one-text}
 
 pub write-once : (h : Chart) (ss : List ℕ) (ms : List ℤ) (ps ts os l : List ℕ) → Once {A = Written × List ℕ} (λ (r, m). ChartWritten (tablesOf h ss ms ps ts os) l r m)

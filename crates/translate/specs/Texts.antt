@@ -1,5 +1,5 @@
 -- What the writer of a chart's text answers and leaves, for any tables.
-use mathlib.Core.Path.{_≡_, refl, sym, ap, _∙_}
+use mathlib.Core.Path.{_≡_, sym, _∙_}
 use mathlib.Core.Bool.{Bool, true, false, cond}
 use mathlib.Core.List.{List}
 use Prim.Native.Nat.{ℕ}
@@ -19,18 +19,18 @@ use Rattle.meaning.specs.declared.Verdict.the-variants.{Accepted, Refused}
 use Rattle.format.specs.Places.{room}
 use Rattle.format.specs.Printed.{chartText}
 use Rattle.format.specs.Bytes.{Translates, chart-translated}
-use Rattle.writer.specs.declared.Written.{Written}
-use Rattle.writer.specs.declared.Written.the-variants as W
-use Rattle.writer.specs.Wrote.{TextWritten}
+use Rattle.format.specs.TextWritten.{textAnswer, textLeft, TextWritten}
+use Rattle.format.specs.declared.Written.{Written}
+use Rattle.format.specs.declared.Written.the-variants as W
 
 -- refusals 1 to 11, then ROOM with the length of the text, else its length
 abbrev pub answerFor : Tables → List ℕ → Verdict → Written
-answerFor c l Accepted = cond (leb (length (chartText c)) (length l)) (W.Wrote (length (chartText c))) (W.Refused (R.Room (room (length (chartText c)))))
+answerFor c l Accepted = textAnswer (chartText c) l
 answerFor c l (Refused r) = W.Refused r
 
 -- the text from the front, the rest kept; "A refusal writes nothing."
 abbrev pub leftFor : Tables → List ℕ → Verdict → List ℕ
-leftFor c l Accepted = cond (leb (length (chartText c)) (length l)) (overlaid (chartText c) l) l
+leftFor c l Accepted = textLeft (chartText c) l
 leftFor c l (Refused r) = l
 
 -- from the slice l to m, with the answer a; and what is written is a translation of the chart: demands 2 and 3 hold of its bytes
@@ -55,7 +55,7 @@ front c R l true n e =
     rw (take-at (chartText c) (drop (length (chartText c)) l) n k) (chart-translated c R)
 front c R l false n e = absurd (let o : _≡_ {A = ℕ} 0 1 = cc in omega arith)
 
-pub accepted-tables : (c : Tables) (l : List ℕ) (a : Written) (m : List ℕ) → verdict c ≡ Accepted → TextWritten c l a m → ChartWritten c l a m
+pub accepted-tables : (c : Tables) (l : List ℕ) (a : Written) (m : List ℕ) → verdict c ≡ Accepted → TextWritten (chartText c) l a m → ChartWritten c l a m
 accepted-tables c l a m e p = record {
   answer = rw e (p .answer);
   out = rw e (p .out);

@@ -1,7 +1,7 @@
 // The text of a chart, for any tables and any lent slice: what has no text is refused, in document 01's order.
+use format::Written;
 use meaning::Verdict;
 use tables::Chart;
-use writer::Written;
 ghost use mathlib.Core.Path.{_≡_};
 ghost use Rattle.tables.specs.Given.{tablesOf};
 ghost use Rattle.translate.specs.Texts.{ChartWritten};

@@ -1,10 +1,10 @@
 -- Super-states with the smaller numbers: the way up from a state only falls.
-use mathlib.Core.Path.{_≡_, refl, sym, ap, _∙_}
+use mathlib.Core.Path.{_≡_, sym, ap, _∙_}
 use mathlib.Core.Logic.{inl, inr}
 use Prim.Native.Nat.{ℕ, zero, suc, _+_, _%_, _≤_, _<_}
 use native.Mathlib.Omega.{arith}
 use native.Mathlib.Decide.{decLe, ℕ-discrete}
-use mathlib.Core.Bool.{Bool, true, false, _||_}
+use mathlib.Core.Bool.{true, _||_, or-false}
 use lib.ListN.{length, List·getD-eq-default}
 use Rattle.meaning.specs.RowsLaws.{which, or-l, or-r}
 use Rattle.meaning.specs.Tables.{Tables, stateCount, superState}
@@ -32,12 +32,8 @@ above-less c a b f h e =
 pub near-low : (c : Tables) (a b : ℕ) → Falling c → a ≤ b → atOrAbove c a b ≡ (atOrAbove c a b || atOrAbove c b a)
 near-low c a b f h = elim (which (atOrAbove c b a)) [
   | inl e ↦ above-less c a b f h e ∙ sym (or-r (atOrAbove c a b) (atOrAbove c b a) e)
-  | inr e ↦ or-no (atOrAbove c a b) ∙ ap (λ x. atOrAbove c a b || x) (sym e)
+  | inr e ↦ sym (or-false (atOrAbove c a b)) ∙ ap (λ x. atOrAbove c a b || x) (sym e)
 ]
-  where
-    or-no : (x : Bool) → x ≡ (x || false)
-    or-no true = refl
-    or-no false = refl
 
 pub near-high : (c : Tables) (a b : ℕ) → Falling c → b ≤ a → atOrAbove c b a ≡ (atOrAbove c a b || atOrAbove c b a)
 near-high c a b f h = elim (which (atOrAbove c a b)) [

@@ -1,15 +1,15 @@
 -- Words and their bits.
 use mathlib.Core.Path.{_≡_, sym, _∙_}
-use Prim.Native.Nat.{ℕ, zero, suc, _+_, _*_, _-_, _/_, _%_, _^_, _≤_, _<_}
-use native.Mathlib.Nat.{pow-succ', div-eq-of-lt, one-mul, mod-eq-of-lt}
-use mathlib.Core.Logic.{_⊎_, inl, inr}
-use native.Mathlib.Decide.{ℕ-discrete}
+use Prim.Native.Nat.{ℕ, zero, suc, _+_, _*_, _/_, _%_, _^_, _≤_, _<_}
+use native.Mathlib.Nat.{pow-succ', div-eq-of-lt}
+use mathlib.Core.Logic.{inl, inr}
 use native.Mathlib.Omega.{arith}
 use mathlib.Core.Bool.{Bool, true, false, cond, true≢false}
 use mathlib.Core.List.{List, [], _∷_}
 use lib.ListN.{length, getD, set}
-use lib.Pow.{pow-lt, pow-pos, shr-shr}
+use lib.Pow.{pow-pos, shr-shr}
 use borrow.Author.Tests.{eqb-true, eq-eqb, lt-ltb}
+use Rattle.meaning.specs.BitLaws.{even}
 use Rattle.meaning.specs.Machine.{wordOf}
 use Rattle.values.specs.Value.{bitOn, withBit}
 
@@ -30,9 +30,6 @@ pub bit-low : (k w : ℕ) → bitOn w k ≡ true → 2 ^ k ≤ w
 unfolding bitOn
 bit-low zero w e = let h : w / 1 % 2 ≡ 1 = eqb-true (w / 2 ^ 0 % 2) 1 e in omega arith
 bit-low (suc k) w e = let h = bit-low k (w / 2) (sym (bit-suc w k) ∙ e) in omega (arith, pow-succ' 2 k)
-
-even : (w : ℕ) → (w % 2 ≡ 0) ⊎ (w % 2 ≡ 1)
-even w = elim (ℕ-discrete (w % 2) 0) [ yes e ↦ inl e | no e ↦ inr (omega arith) ]
 
 -- and one that is off has room
 pub bit-room : (k n w : ℕ) → k < n → w < 2 ^ n → bitOn w k ≡ false → w + 2 ^ k < 2 ^ n
@@ -75,7 +72,3 @@ unfolding withBit
 word-set bs k v h g =
     let e = set-weighs bs k v h in
     rw (lt-ltb k 64 (omega arith), word-bit bs k) (omega arith)
-
--- a one shifted below the width
-pub weight : (k : ℕ) → k < 64 → 1 * 2 ^ k % 18446744073709551616 ≡ 2 ^ k
-weight k h = rw (one-mul (2 ^ k)) (mod-eq-of-lt (pow-lt h))

@@ -53,12 +53,12 @@ fn is_on(w: u64, n: u16) -> bool
     bit_on(w, i)
 }
 
-fn flip_flop(ff: &[u8], n: u16) -> bool
+// Whether the byte of flip-flop n is 1.
+pub fn flip_flop(ff: &[u8], n: usize) -> bool
     ensures { λ r. ⌜ r ≡ flipFlopOn (now (ff .entry)) n ⌝ }
 {
-    let k = n as usize;
-    if k < ff.len() {
-        return ff[k] == 1;
+    if n < ff.len() {
+        return ff[n] == 1;
     }
     false
 }
@@ -68,7 +68,7 @@ pub fn value(ff: &[u8], x: u64, qs: u64, o: Operand) -> bool
     ensures { λ r. ⌜ r ≡ valueIn x qs (now (ff .entry)) o ⌝ }
 {
     match o {
-        Operand::Mx(n) => flip_flop(ff, n),
+        Operand::Mx(n) => flip_flop(ff, n as usize),
         Operand::Ix(n) => is_on(x, n),
         Operand::Qx(_) => false,
         Operand::TimerQ(n) => is_on(qs, n),

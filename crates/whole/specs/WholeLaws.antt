@@ -9,7 +9,6 @@ use lib.ListN.{length, take, drop, length-take, take-append-drop}
 use lib.Seq.{take-at, drop-append-le}
 use lib.Dec.{leb, eqb}
 use borrow.Author.Tests.{leb-true, eq-eqb, ne-eqb}
-use Rattle.meaning.specs.RowsLaws.{which}
 use Rattle.meaning.specs.Tables.{Tables}
 use Rattle.meaning.specs.Rules.{Rules}
 use Rattle.meaning.specs.Check.{verdictOf, checks, verdict}
@@ -23,7 +22,7 @@ use Rattle.meaning.specs.declared.Verdict.{Verdict}
 use Rattle.meaning.specs.declared.Verdict.the-variants.{Accepted, Refused}
 use Rattle.format.specs.Words.{words}
 use Rattle.format.specs.Places.{room}
-use Rattle.format.specs.Printed.{chartText}
+use Rattle.format.specs.Printed.{chartText, roomCheck}
 use Rattle.format.specs.Bytes.{chart-translated, words-short}
 use Rattle.lent.specs.Slice.{left}
 use Rattle.lent.specs.RunLaws.{one-row}
@@ -32,13 +31,13 @@ use Rattle.reader.specs.declared.Answer.{Answer}
 use Rattle.reader.specs.declared.Answer.the-variants as Out
 use Rattle.reader.specs.Reads.{TextRead, reads, cramped, refuses}
 use Rattle.reader.specs.WaysBack.{written-read}
-use Rattle.writer.specs.declared.Written.{Written}
-use Rattle.writer.specs.declared.Written.the-variants as W
+use Rattle.format.specs.declared.Written.{Written}
+use Rattle.format.specs.declared.Written.the-variants as W
 use Rattle.translate.specs.Texts.{answerFor, leftFor, ChartWritten}
 use Rattle.written_run.specs.AsRead.{chartWords, AsRead}
 use Rattle.whole.specs.declared.Outcome.{Outcome}
 use Rattle.whole.specs.declared.Outcome.the-variants as O
-use Rattle.whole.specs.WrittenRan.{roomCheck, laterChecks, runVerdict, outcome, RanBy, WrittenRan, ReadAndRun, noScans}
+use Rattle.whole.specs.WrittenRan.{laterChecks, runVerdict, outcome, WrittenRan, ReadAndRun, noScans}
 
 -- ---- reading back
 

@@ -3,7 +3,6 @@ use mathlib.Core.Path.{_≡_, sym, _∙_}
 use mathlib.Core.List.{List, [], _∷_, _++_, map}
 use Prim.Native.Nat.{ℕ, min}
 use lib.ListN.{length, take}
-use lib.Dec.{leb}
 use Rattle.meaning.specs.Tables.{Tables}
 use Rattle.meaning.specs.Check.{Check, verdictOf, checks}
 use Rattle.meaning.specs.Calls.{scansCheck, overlaid}
@@ -12,19 +11,14 @@ use Rattle.meaning.specs.History.{reading}
 use Rattle.meaning.specs.declared.Refusal.the-variants as R
 use Rattle.meaning.specs.declared.Verdict.{Verdict}
 use Rattle.meaning.specs.declared.Verdict.the-variants.{Accepted, Refused}
-use Rattle.format.specs.Places.{room}
-use Rattle.format.specs.Printed.{chartText}
+use Rattle.format.specs.Printed.{chartText, roomCheck}
 use Rattle.format.specs.Bytes.{Translates}
 use Rattle.lent.specs.Slice.{left}
 use Rattle.written_run.specs.AsRead.{chartWords, AsRead}
 use Rattle.whole.specs.declared.Outcome.{Outcome}
 use Rattle.whole.specs.declared.Outcome.the-variants as O
 
--- 12 ROOM: "result slice too short", with the text's length. A text never has more words than bytes, so that its length is room enough for both, and the shorter slice decides.
-unfoldable pub roomCheck : Tables → ℕ → Check
-roomCheck c n = record { refusal = λ p. R.Room (room (length (chartText c))); rows = 1; passes = λ i. leb (length (chartText c)) n }
-
--- "then 14, 15, 12": the checks after those of the tables, for the input words xs, the slices l of the text, ws of the words, ls of the leaves and os of the outputs
+-- "then 14, 15, 12": the checks after those of the tables, for the input words xs, the slices l of the text, ws of the words, ls of the leaves and os of the outputs. A text never has more words than bytes, so that its length is room enough for both, and the shorter slice decides.
 abbrev pub laterChecks : Tables → List ℕ → List ℕ → List ℕ → List ℕ → List ℕ → List Check
 laterChecks c xs l ws ls os = scansCheck (length xs) (length ls) ∷ scansCheck (length xs) (length os) ∷ roomCheck c (min (length l) (length ws)) ∷ []
 

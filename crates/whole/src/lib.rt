@@ -1,10 +1,10 @@
 // A chart's text written, read back as words, and the words run from cleared memory: what is lent in the end comes from the
 // bytes that were written, and from nothing else.
+use format::Written;
 use meaning::Refusal;
 use meaning::Verdict;
 use reader::Answer;
 use tables::Chart;
-use writer::Written;
 ghost use mathlib.Core.Path.{_≡_};
 ghost use Prim.Native.Nat.{ℕ, _≤_};
 ghost use lib.ListN.{length};
@@ -90,7 +90,7 @@ pub fn run_written(
     if outputs.len() != inputs.len() {
         return no_scans(chart, states, moves, presets, timer_pairs, output_pairs);
     }
-    let room = lengths::shorter(text.len(), words.len());
+    let room = slices::shorter(text.len(), words.len());
     let w = translate::write(
         chart,
         states,

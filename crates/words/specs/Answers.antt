@@ -1,24 +1,17 @@
 -- What the writer of text from words answers, and that it has no second answer.
 use mathlib.Core.Path.{_≡_, sym, _∙_}
-use Prim.Native.Nat.{ℕ, _≤_, _<_}
-use native.Mathlib.Omega.{arith}
+use Prim.Native.Nat.{ℕ}
 use mathlib.Core.Bool.{true}
 use mathlib.Core.List.{List}
-use lib.ListN.{length}
 use Rattle.meaning.specs.Programs.{Program, fits}
-use Rattle.meaning.specs.Calls.{overlaid}
-use Rattle.meaning.specs.declared.Refusal.the-variants.{Room, Text}
+use Rattle.meaning.specs.declared.Refusal.the-variants.{Text}
 use Rattle.format.specs.Words.{words, AcceptedWords}
 use Rattle.format.specs.Text.{text}
-use Rattle.format.specs.Places.{WordPlace, room}
+use Rattle.format.specs.Places.{WordPlace}
 use Rattle.format.specs.WordLaws.{words-same, place-same}
-use Rattle.words.specs.declared.Written.{Written}
-use Rattle.words.specs.declared.Written.the-variants.{Wrote, Refused}
-
--- the text t is written into a slice that held out and holds m afterwards, if it has the room
-pub data TextWritten (t out : List ℕ) (r : Written) (m : List ℕ) : Type 0 where
-  whole : length t ≤ length out → r ≡ Wrote (length t) → m ≡ overlaid t out → TextWritten t out r m
-  short : length out < length t → r ≡ Refused (Room (room (length t))) → m ≡ out → TextWritten t out r m
+use Rattle.format.specs.TextWritten.{TextWritten, text-written-same}
+use Rattle.format.specs.declared.Written.{Written}
+use Rattle.format.specs.declared.Written.the-variants.{Refused}
 
 -- the text of the program that the words l are; "A refusal writes nothing."
 pub data WordsWritten (l out : List ℕ) (r : Written) (m : List ℕ) : Type 0 where
@@ -26,12 +19,6 @@ pub data WordsWritten (l out : List ℕ) (r : Written) (m : List ℕ) : Type 0 w
   refused : (k : ℕ) → WordPlace l k → r ≡ Refused (Text k) → m ≡ out → WordsWritten l out r m
 
 -- ---- no second answer
-
-pub text-written-same : {t out : List ℕ} {r q : Written} {m n : List ℕ} → TextWritten t out r m → TextWritten t out q n → (r ≡ q) × (m ≡ n)
-text-written-same (TextWritten.whole f r m) (TextWritten.whole g q n) = (cc, cc)
-text-written-same (TextWritten.whole f r m) (TextWritten.short g q n) = absurd (omega arith)
-text-written-same (TextWritten.short f r m) (TextWritten.whole g q n) = absurd (omega arith)
-text-written-same (TextWritten.short f r m) (TextWritten.short g q n) = (cc, cc)
 
 pub words-written-same : {l out : List ℕ} {r q : Written} {m n : List ℕ} → WordsWritten l out r m → WordsWritten l out q n → (r ≡ q) × (m ≡ n)
 words-written-same (WordsWritten.accepted p f e w) (WordsWritten.accepted s g d v) = text-written-same w (rw (words-same s p g f (d ∙ sym e)) at v)

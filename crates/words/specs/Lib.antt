@@ -1,4 +1,3 @@
 pub mod Answers
 pub mod ByWords
-pub mod Told
 pub mod Once

@@ -2,7 +2,7 @@
 use mathlib.Core.List.{List}
 use Prim.Native.Nat.{ℕ}
 use Rattle.meaning.specs.Once.{Once, two}
-use Rattle.words.specs.declared.Written.{Written}
+use Rattle.format.specs.declared.Written.{Written}
 use Rattle.words.specs.Answers.{WordsWritten, words-written-same}
 
 pub write-words-once : (ws out : List ℕ) → Once {A = Written × List ℕ} (λ (r, m). WordsWritten ws out r m)

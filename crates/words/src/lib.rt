@@ -1,15 +1,11 @@
 // The text of a list of instruction words.
+use format::Written;
 use meaning::Refusal;
 use phases::Passed;
+ghost use Rattle.format.specs.TextWritten.{TextWritten};
 ghost use Rattle.lines.specs.Fit.{Fit};
-ghost use Rattle.words.specs.Answers.{TextWritten, WordsWritten};
+ghost use Rattle.words.specs.Answers.{WordsWritten};
 ghost use Rattle.words.specs.ByWords.{wordsText};
-
-// What a writer of text answers: how many bytes it wrote, from the front, or why it wrote none.
-pub enum Written {
-    Wrote(usize),
-    Refused(Refusal),
-}
 
 // The text of accepted words with d blocks.
 fn put_text(out: &mut [u8], d: usize, words: &[u32]) -> usize
@@ -31,8 +27,8 @@ fn write_text(words: &[u32], d: usize, out: &mut [u8]) -> Written
     if room < needed {
         return Written::Refused(Refusal::Room(needed));
     }
-    let n = put_text(out, d, words);
-    Written::Wrote(n)
+    put_text(out, d, words);
+    Written::Wrote(needed)
 }
 
 // The text of the program that the words are.

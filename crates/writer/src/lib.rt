@@ -1,17 +1,13 @@
 // The text of a chart: document 01, "The written text".
+use format::Written;
 use meaning::Refusal;
 ghost use Rattle.meaning.specs.Tables.{Tables};
 ghost use Rattle.format.specs.Printed.{chartText};
+ghost use Rattle.format.specs.TextWritten.{TextWritten};
 ghost use Rattle.layout.specs.Laid.{LaidOut};
 ghost use Rattle.lines.specs.Fit.{Fit};
 ghost use Rattle.bits.specs.Sent.{laid};
-ghost use Rattle.writer.specs.Wrote.{Ruled, TextWritten};
-
-// What a call answers that writes: how much it wrote, or why nothing.
-pub enum Written {
-    Wrote(usize),
-    Refused(Refusal),
-}
+ghost use Rattle.writer.specs.Wrote.{Ruled};
 
 // "PROGRAM CHART; ..; the rungs; END_PROGRAM", from the front, where the slice holds them.
 fn put_text(
@@ -70,7 +66,7 @@ pub fn write_checked(
     out: &mut [u8],
 ) -> Written
     ensures { λ r. ⌜ ((c : Tables) → Ruled c outputs (now (states .entry)) (now (moves .entry)) (now (presets .entry)) (now («timer_pairs» .entry)) (now («output_pairs» .entry))
-        → TextWritten c (now (out .entry)) r (now (out .exit))) ⌝ }
+        → TextWritten (chartText c) (now (out .entry)) r (now (out .exit))) ⌝ }
 {
     let layout = layout::lay_out(states);
     let first = layout.first;

@@ -1,21 +1,20 @@
 -- A chart's program run scan after scan in a controller with blocks to spare.
 use mathlib.Core.Path.{_≡_, refl, sym, ap, _∙_, subst}
-use Prim.Native.Nat.{ℕ, zero, suc, _+_, _*_, _-_, _≤_, _<_}
+use Prim.Native.Nat.{ℕ, _+_, _*_, _-_, _≤_, _<_}
 use native.Mathlib.Omega.{arith}
 use native.Mathlib.Numerals.{add-one}
-use native.Mathlib.Decide.{decLe}
-use mathlib.Core.List.{List, [], _∷_, map}
-use lib.ListN.{length, getD, set, take, replicate, length-replicate, getD-replicate, replicate-append-replicate, List·getD-eq-default}
+use mathlib.Core.List.{List, map}
+use lib.ListN.{length, getD, set, take, replicate, length-replicate, replicate-append-replicate}
 use lib.Seq.{take-all, take-at}
-use Rattle.meaning.specs.Tables.{Tables, timerCount}
+use Rattle.meaning.specs.RowsLaws.{getD-equal}
+use Rattle.meaning.specs.Tables.{Tables}
 use Rattle.meaning.specs.Layout.{flipFlops}
 use Rattle.meaning.specs.Rules.{Rules}
 use Rattle.meaning.specs.Machine.{State, start, step, Seen, seen, trace, after, Valid}
 use Rattle.meaning.specs.MachineLaws.{start-valid, step-valid}
 use Rattle.meaning.specs.History.{reading}
 use Rattle.meaning.specs.HistoryLaws.{run-is-reading}
-use Rattle.meaning.specs.Programs.{instructions}
-use Rattle.meaning.specs.Scan.{Controller, blank, blockAt, scanned, outputWord}
+use Rattle.meaning.specs.Scan.{Controller, blank, blockAt}
 use Rattle.meaning.specs.Written.{program}
 use Rattle.meaning.specs.ProgramLaws.{program-fits}
 use Rattle.meaning.specs.Stands.{StandsFor, shownLeaf}
@@ -29,7 +28,7 @@ use Rattle.layout.specs.Laid.{LaidOut}
 use Rattle.layout.specs.declared.Layout.{Layout}
 use Rattle.machine.specs.Held.{Scanned}
 use Rattle.machine.specs.StepLaws.{ran-more}
-use Rattle.il.specs.Scans.{holding, Fitting, OneScan}
+use Rattle.il.specs.Scans.{holding, OneScan}
 use Rattle.written_run.specs.AsRead.{AsRead}
 
 -- accepted tables with this scan step, these states and this layout, the words of their program, and cleared flip-flops
@@ -49,10 +48,6 @@ pub record Going (c : Tables) (xs : List ℕ) (i : ℕ) (fs : List ℕ) (bs : Li
   pub stands : StandsFor c (holding fs bs) state
   pub ran : Scanned c (start c) (take i xs) state (take i ls) (take i os)
 
--- a row of equal elements
-row-of : {A : Type 0} (a : A) (n i : ℕ) → getD (replicate n a) i a ≡ a
-row-of a n i = elim (decLe (suc i) n) [ yes h ↦ getD-replicate n i a a h | no h ↦ List·getD-eq-default (replicate n a) a {n = i} (omega (arith, length-replicate n a)) ]
-
 -- the part of the cleared bytes that a chart's program uses
 pub part-cleared : (t n : ℕ) → t ≡ n → n ≤ 128 → take {A = ℕ} (2 * t) (replicate 256 0) ≡ replicate (2 * n) 0
 part-cleared t n e h =
@@ -67,11 +62,11 @@ module _ (c : Tables) (R : Rules c) where
     state = start c;
     valid = start-valid c R;
     holds = record {
-      bits = λ b. rw (e, row-of {A = ℕ} 0 (2 * flipFlops c) b) (omega arith);
+      bits = λ b. rw (e, getD-equal {A = ℕ} 0 (2 * flipFlops c) b) (omega arith);
       size = rw e (length-replicate {A = ℕ} (2 * flipFlops c) 0 ∙ (omega arith));
       blocks = omega (arith, length-replicate 32 blank, R .size .fewTimers);
     };
-    stands = start-stands c R (holding fs (replicate 32 blank)) (λ b. rw e (row-of 0 (2 * flipFlops c) b)) (λ t l u. ap (λ b. b .last) (row-of blank 32 (t - 1)));
+    stands = start-stands c R (holding fs (replicate 32 blank)) (λ b. rw e (getD-equal 0 (2 * flipFlops c) b)) (λ t l u. ap (λ b. b .last) (getD-equal blank 32 (t - 1)));
     ran = record { state = refl; leaves = refl; outputs = refl };
   }
 

@@ -26,7 +26,7 @@ fn show(
         × ((c : Tables) → c .states ≡ now (states .entry) → Rules c → LaidOut c laid → now (leaves .exit) ≡ set (now (leaves .entry)) i (shownLeaf c (now («flip_flops» .entry)))) ⌝ }
 {
     moving::remember(leaves, i, shown::laid_leaf(states, laid, flip_flops));
-    il::put_word(outputs, i, word);
+    slices::put_word(outputs, i, word);
 }
 
 // One scan for each input word, from blocks that were never called.

@@ -1,9 +1,5 @@
 use native.Mathlib.Omega.{arith}
-use mathlib.Core.Path.{_∙_, ap}
-use mathlib.Core.Bool.{_||_}
-use Prim.Native.Nat.{_*_, _^_, _%_, _-_}
-use Rattle.meaning.specs.Literals.{inputOn}
-use Rattle.pairing.specs.WordsLaws.{or-on, weight-on}
+use Rattle.meaning.specs.BitLaws.{with-number}
 use borrow.Author.Needs.{needs}
 use Rattle.asks.proofs.with.Statement.{statement}
 use Rattle.asks.proofs.with.Tie as tie
@@ -21,9 +17,7 @@ shl-result : tie.Need-shl-result
 shl-result c = search needs
 
 returns-3 : tie.Need-returns-3
-returns-3 c h k m g =
-    let a = c .before .before .args in
-    or-on (a .w) (1 * 2 ^ (a .n - 1) % 18446744073709551616) m ∙ ap (λ b. inputOn (a .w) m || b) (weight-on (a .n) m h k g)
+returns-3 c h k m g = with-number (c .before .before .args .w) (c .before .before .args .n) m h k g
 
 pub with-spec : {M : Type 1} → statement M
 with-spec = tie.close (tie.spec returns returns-2 cast-result shl-result returns-3)

@@ -13,27 +13,21 @@ use Rattle.ways.proofs.next.Reads as next-reads
 use Rattle.ways.proofs.put_asked.Reads as put-asked-reads
 use Rattle.spelling.proofs.put_mx.Reads as put-mx-reads
 
--- src/lib.rt:69:9
 put-asked-requires : tie.Need-put-asked-requires
 put-asked-requires c κs = search needs
 
--- src/lib.rt:70:36
 cast-put-mx : tie.Need-cast-put-mx
 cast-put-mx c = search needs
 
--- src/lib.rt:70:9
 put-mx-requires : tie.Need-put-mx-requires
 put-mx-requires c κs = search needs
 
--- src/lib.rt:71:21
 next-requires : tie.Need-next-requires
 next-requires c κs = search needs
 
--- src/lib.rt:65:1
 same-length : tie.Need-same-length
 same-length c = search needs
 
--- src/lib.rt:65:1
 returns : tie.Need-returns
 unfolding after
 returns c h =

@@ -12,27 +12,21 @@ use Rattle.ways.proofs.next.Reads as next-reads
 use Rattle.ways.proofs.put_asked.Reads as put-asked-reads
 use Rattle.spelling.proofs.put_named.Reads as put-named-reads
 
--- src/lib.rt:87:9
 put-asked-requires : tie.Need-put-asked-requires
 put-asked-requires c κs = search needs
 
--- src/lib.rt:88:42
 slice-aggregate-put-named : tie.Need-slice-aggregate-put-named
 slice-aggregate-put-named c = search needs
 
--- src/lib.rt:88:9
 put-named-requires : tie.Need-put-named-requires
 put-named-requires c κs = search needs
 
--- src/lib.rt:89:21
 next-requires : tie.Need-next-requires
 next-requires c κs = search needs
 
--- src/lib.rt:83:1
 same-length : tie.Need-same-length
 same-length c = search needs
 
--- src/lib.rt:83:1
 returns : tie.Need-returns
 unfolding after line operandText
 returns c =

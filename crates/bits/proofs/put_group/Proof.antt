@@ -8,47 +8,36 @@ use Rattle.bits.proofs.put_group.Lts as lts
 use Rattle.ways.proofs.base.Reads as base-reads
 use Rattle.bits.proofs.put_bits.Reads as put-bits-reads
 
--- src/lib.rt:141:9
 returns : tie.Need-returns
 returns c c' o R h = absurd (omega (arith, group-known c' _ o R _ _ h))
 
--- src/lib.rt:144:9
 returns-2 : tie.Need-returns-2
 returns-2 c c' o R h = absurd (omega (arith, group-known c' _ o R _ _ h))
 
--- src/lib.rt:147:25
 base-requires : tie.Need-base-requires
 base-requires c κs = search needs
 
--- src/lib.rt:147:43
 mul-put-bits : tie.Need-mul-put-bits
 mul-put-bits c = search needs
 
--- src/lib.rt:147:43
 element-copy-out-put-bits : tie.Need-element-copy-out-put-bits
 element-copy-out-put-bits c = search needs
 
--- src/lib.rt:147:53
 element-copy-out-put-bits-2 : tie.Need-element-copy-out-put-bits-2
 element-copy-out-put-bits-2 c = search needs
 
--- src/lib.rt:147:63
 mul-put-bits-2 : tie.Need-mul-put-bits-2
 mul-put-bits-2 c = search needs
 
--- src/lib.rt:147:63
 element-copy-out-put-bits-3 : tie.Need-element-copy-out-put-bits-3
 element-copy-out-put-bits-3 c = search needs
 
--- src/lib.rt:147:5
 put-bits-requires : tie.Need-put-bits-requires
 put-bits-requires c κs = search needs
 
--- src/lib.rt:127:1
 same-length : tie.Need-same-length
 same-length c = search needs
 
--- src/lib.rt:127:1
 returns-3 : tie.Need-returns-3
 returns-3 c c' o R h =
     let a = c .before .before .before .before .before .before .before .before .before .before .before .args in

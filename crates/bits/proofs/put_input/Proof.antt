@@ -10,23 +10,18 @@ use Rattle.ways.proofs.next.Reads as next-reads
 use Rattle.ways.proofs.put_asked.Reads as put-asked-reads
 use Rattle.spelling.proofs.put_ix.Reads as put-ix-reads
 
--- src/lib.rt:78:9
 put-asked-requires : tie.Need-put-asked-requires
 put-asked-requires c κs = search needs
 
--- src/lib.rt:79:9
 put-ix-requires : tie.Need-put-ix-requires
 put-ix-requires c κs = search needs
 
--- src/lib.rt:80:21
 next-requires : tie.Need-next-requires
 next-requires c κs = search needs
 
--- src/lib.rt:74:1
 same-length : tie.Need-same-length
 same-length c = search needs
 
--- src/lib.rt:74:1
 returns : tie.Need-returns
 unfolding after
 returns c =

@@ -9,54 +9,42 @@ use Rattle.bits.proofs.put_kind.Lts as lts
 use Rattle.bits.proofs.put_expired.Reads as put-expired-reads
 use Rattle.bits.proofs.put_input.Reads as put-input-reads
 
--- src/lib.rt:209:25
 enum-told : tie.Need-enum-told
 enum-told c = search needs
 
--- src/lib.rt:210:21
 enum-known-kind : tie.Need-enum-known-kind
 enum-known-kind c = search needs
 
--- src/lib.rt:210:27
 put-input-requires : tie.Need-put-input-requires
 put-input-requires c κs = search needs
 
--- src/lib.rt:211:21
 enum-known-kind-2 : tie.Need-enum-known-kind-2
 enum-known-kind-2 c = search needs
 
--- src/lib.rt:211:27
 put-expired-requires : tie.Need-put-expired-requires
 put-expired-requires c κs = search needs
 
--- src/lib.rt:212:26
 enum-told-2 : tie.Need-enum-told-2
 enum-told-2 c = search needs
 
--- src/lib.rt:205:1
 returns : tie.Need-returns
 unfolding kindTest
 returns c c' = rw (c .enum-told .given .1) (sent-none _ _ (omega arith) (omega arith))
 
--- src/lib.rt:205:1
 same-length : tie.Need-same-length
 same-length c = search needs
 
--- src/lib.rt:205:1
 returns-2 : tie.Need-returns-2
 unfolding kindTest
 returns-2 c c' = rw (c .before .before .before .before .before .kind .given .1) (c .before .before .put-input .ensures)
 
--- src/lib.rt:205:1
 same-length-2 : tie.Need-same-length-2
 same-length-2 c = search needs
 
--- src/lib.rt:205:1
 returns-3 : tie.Need-returns-3
 unfolding kindTest
 returns-3 c c' = rw (c .before .before .before .before .before .kind2 .given .1) (c .before .before .put-expired .ensures)
 
--- src/lib.rt:205:1
 returns-4 : tie.Need-returns-4
 unfolding kindTest
 returns-4 c c' = rw (c .enum-told2 .given .1) (sent-none _ _ (omega arith) (omega arith))

@@ -4,7 +4,7 @@ use lib.IntN.{natAbs}
 use borrow.Author.Needs.{sfits-of}
 use Rattle.meaning.specs.Literals.{kindOf, wanted}
 use mathlib.Core.List.{flatMap}
-use Prim.Native.Nat.{_+_, _-_, _≤_}
+use Prim.Native.Nat.{_-_, _≤_}
 use native.Mathlib.Numerals.{add-one}
 use native.Mathlib.Omega.{arith}
 use lib.ListN.{length}

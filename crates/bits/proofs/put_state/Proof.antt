@@ -25,11 +25,9 @@ Inv-loop out₀ states first width code total s path k₀ p₀ out k p =
 abbrev μ-loop : tie.MeasureT-loop
 μ-loop out₀ states first width code total s path k₀ p₀ out k p = k
 
--- src/lib.rt:182:9
 rise-requires : tie.Need-rise-requires Inv-loop μ-loop
 rise-requires c κs = refl
 
--- src/lib.rt:184:5
 loop-holds : tie.Need-loop-holds Inv-loop μ-loop
 unfolding pathBits
 loop-holds c = (
@@ -42,35 +40,27 @@ loop-holds c = (
       (omega (arith, r .deep), rw e (sent-none _ _ (omega arith) (omega arith))),
 )
 
--- src/lib.rt:185:17
 mul-a : tie.Need-mul-a Inv-loop μ-loop
 mul-a c = omega arith
 
--- src/lib.rt:185:17
 array-read-a : tie.Need-array-read-a Inv-loop μ-loop
 array-read-a c = omega arith
 
--- src/lib.rt:186:9
 sub-k : tie.Need-sub-k Inv-loop μ-loop
 sub-k c = omega arith
 
--- src/lib.rt:187:61
 mul-put-group : tie.Need-mul-put-group Inv-loop μ-loop
 mul-put-group c = omega arith
 
--- src/lib.rt:187:61
 array-read-put-group : tie.Need-array-read-put-group Inv-loop μ-loop
 array-read-put-group c = omega arith
 
--- src/lib.rt:187:9
 put-group-requires : tie.Need-put-group-requires Inv-loop μ-loop
 put-group-requires c κs = tt
 
--- src/lib.rt:184:5
 loop-less : tie.Need-loop-less Inv-loop μ-loop
 loop-less c = omega arith
 
--- src/lib.rt:184:5
 loop-again : tie.Need-loop-again Inv-loop μ-loop
 loop-again c =
     let b = c .before .before .before .before .before .loop in
@@ -91,11 +81,9 @@ loop-again c =
           ),
     )
 
--- src/lib.rt:168:1
 same-length : tie.Need-same-length Inv-loop μ-loop
 same-length c = c .before .loop .inv .1
 
--- src/lib.rt:168:1
 returns : tie.Need-returns Inv-loop μ-loop
 unfolding up
 returns c c' d h =

@@ -10,40 +10,31 @@ use Rattle.bits.proofs.put_true.Reads as reads
 use Rattle.bits.proofs.put_true.Lts as lts
 use Rattle.lines.proofs.put_part.Reads as put-part-reads
 
--- src/lib.rt:160:39
 enum-told : tie.Need-enum-told
 enum-told c = search needs
 
--- src/lib.rt:160:48
 slice-aggregate-put-part : tie.Need-slice-aggregate-put-part
 slice-aggregate-put-part c = search needs
 
--- src/lib.rt:160:23
 put-part-requires : tie.Need-put-part-requires
 put-part-requires c κs = search needs
 
--- src/lib.rt:161:22
 enum-told-2 : tie.Need-enum-told-2
 enum-told-2 c = search needs
 
--- src/lib.rt:162:23
 enum-told-3 : tie.Need-enum-told-3
 enum-told-3 c = search needs
 
--- src/lib.rt:154:1
 same-length : tie.Need-same-length
 same-length c = search needs
 
--- src/lib.rt:154:1
 returns : tie.Need-returns
 unfolding line operatorText operandText
 returns c = rw (c .before .before .before .before .before .enum-told .given .1) (put-line (Ld True) (c .before .before .put-part .ensures))
 
--- src/lib.rt:154:1
 returns-2 : tie.Need-returns-2
 returns-2 c = rw (c .enum-told2 .given .1) (put-nil _ _ (omega arith) (omega arith))
 
--- src/lib.rt:154:1
 returns-3 : tie.Need-returns-3
 returns-3 c = rw (c .enum-told3 .given .1) (put-nil _ _ (omega arith) (omega arith))
 

@@ -1,13 +1,12 @@
 use mathlib.Core.Path.{_≡_, refl, sym, ap, _∙_}
-use mathlib.Core.Logic.{_≢_}
-use Prim.Native.Nat.{ℕ, _+_, _-_, _≤_, _<_}
+use Prim.Native.Nat.{_-_, _≤_}
 use native.Mathlib.Numerals.{add-one}
 use native.Mathlib.Omega.{arith}
-use lib.ListN.{length, getD, length-set}
+use lib.ListN.{length, length-set}
 use Rattle.meaning.specs.Tables.{Tables, superState}
-use Rattle.meaning.specs.Hierarchy.{up, depth}
+use Rattle.meaning.specs.Hierarchy.{up}
 use Rattle.meaning.specs.TreeLaws.{shallow}
-use Rattle.bits.specs.Sent.{Rises, Risen}
+use Rattle.bits.specs.Sent.{Rises}
 use Rattle.bits.specs.GroupLaws.{root-below, risen-depth, risen-path, risen-more}
 use Rattle.bits.proofs.rise.Statement.{statement}
 use Rattle.bits.proofs.rise.Tie as tie
@@ -22,20 +21,16 @@ Inv-loop states s path₀ t₀ k₀ path t k =
 abbrev μ-loop : tie.MeasureT-loop
 μ-loop states s path₀ t₀ k₀ path t k = 9 - k
 
--- src/lib.rt:156:5
 loop-holds : tie.Need-loop-holds Inv-loop μ-loop
 unfolding up
 loop-holds c = (omega arith, omega arith, λ c' e. (refl, λ j h. absurd (omega arith)))
 
--- src/lib.rt:157:9
 mul-path : tie.Need-mul-path Inv-loop μ-loop
 mul-path c = omega arith
 
--- src/lib.rt:157:9
 element-write-path : tie.Need-element-write-path Inv-loop μ-loop
 element-write-path c = omega arith
 
--- src/lib.rt:159:13
 returns : tie.Need-returns Inv-loop μ-loop
 returns c = (
   omega arith,
@@ -47,19 +42,15 @@ returns c = (
       record { deep = risen-depth c' R s (b .k) z (λ j h. i .1 j h .1); path = λ j h. risen-path c' s (b .path) (b .k) (b .t) (omega arith) i j (omega arith) },
 )
 
--- src/lib.rt:161:9
 super-state-requires : tie.Need-super-state-requires Inv-loop μ-loop
 super-state-requires c κs = tt
 
--- src/lib.rt:162:9
 add-k : tie.Need-add-k Inv-loop μ-loop
 add-k c = omega arith
 
--- src/lib.rt:156:5
 loop-less : tie.Need-loop-less Inv-loop μ-loop
 loop-less c = omega arith
 
--- src/lib.rt:156:5
 loop-again : tie.Need-loop-again Inv-loop μ-loop
 unfolding up
 loop-again c =
@@ -74,7 +65,6 @@ loop-again c =
           ),
     )
 
--- src/lib.rt:151:1
 returns-2 : tie.Need-returns-2 Inv-loop μ-loop
 returns-2 c = (
   omega arith,

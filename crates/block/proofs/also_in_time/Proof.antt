@@ -7,25 +7,20 @@ use Rattle.block.proofs.also_in_time.Tie as tie
 use Rattle.block.proofs.also_in_time.Reads as reads
 use Rattle.block.proofs.also_in_time.Lts as lts
 
--- src/lib.rt:62:26
 mul-result : tie.Need-mul-result
 mul-result c = search needs
 
--- src/lib.rt:62:26
 array-read-result : tie.Need-array-read-result
 array-read-result c = search needs
 
--- src/lib.rt:62:13
 returns : tie.Need-returns
 unfolding inItsTime
 returns c = rw (c .before .if1 .taken, lt-ltb (c .before .before .args .i) 32 (omega arith))
 
--- src/lib.rt:56:1
 returns-2 : tie.Need-returns-2
 unfolding inItsTime
 returns-2 c = rw (c .before .if1 .taken, le-ltb (c .before .before .args .i) 32 (omega arith))
 
--- src/lib.rt:56:1
 returns-3 : tie.Need-returns-3
 returns-3 c = search needs
 

@@ -7,11 +7,9 @@ use Rattle.block.proofs.cal.Reads as reads
 use Rattle.block.proofs.cal.Lts as lts
 use Rattle.block.proofs.ton.Reads as ton-reads
 
--- src/lib.rt:414:5
 ton-requires : tie.Need-ton-requires
 ton-requires c κs = search needs
 
--- src/lib.rt:404:1
 returns : tie.Need-returns
 unfolding calledWith withPt withIn
 returns c = c .ton .ensures

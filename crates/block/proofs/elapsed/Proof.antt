@@ -8,15 +8,12 @@ use Rattle.block.proofs.elapsed.Tie as tie
 use Rattle.block.proofs.elapsed.Reads as reads
 use Rattle.block.proofs.elapsed.Lts as lts
 
--- src/lib.rt:20:27
 sub-if4 : tie.Need-sub-if4
 sub-if4 c = search needs
 
--- src/lib.rt:21:28
 add-result : tie.Need-add-result
 add-result c = search needs
 
--- src/lib.rt:21:21
 returns : tie.Need-returns
 unfolding elapsed
 returns c =
@@ -24,7 +21,6 @@ returns c =
     let e : min (a .b .et + a .step) (a .b .pt) ≡ a .b .et + a .step = omega arith in
     simp (c .before .before .before .if1 .taken, c .before .before .if2 .taken, e)
 
--- src/lib.rt:24:13
 returns-2 : tie.Need-returns-2
 unfolding elapsed
 returns-2 c =
@@ -32,7 +28,6 @@ returns-2 c =
     let e : min (a .b .et + a .step) (a .b .pt) ≡ a .b .pt = omega arith in
     simp (c .before .before .before .if1 .taken, c .before .before .if2 .taken, e)
 
--- src/lib.rt:24:13
 returns-3 : tie.Need-returns-3
 unfolding elapsed
 returns-3 c =
@@ -40,13 +35,11 @@ returns-3 c =
     let e : min (a .b .et + a .step) (a .b .pt) ≡ a .b .pt = omega arith in
     simp (c .before .before .if1 .taken, c .before .if2 .taken, e)
 
--- src/lib.rt:10:1
 returns-4 : tie.Need-returns-4
 unfolding elapsed
 returns-4 c =
     simp (c .before .if1 .taken, c .if2 .left)
 
--- src/lib.rt:10:1
 returns-5 : tie.Need-returns-5
 unfolding elapsed
 returns-5 c =

@@ -8,11 +8,9 @@ use Rattle.block.proofs.ton.Reads as reads
 use Rattle.block.proofs.ton.Lts as lts
 use Rattle.block.proofs.elapsed.Reads as elapsed-reads
 
--- src/lib.rt:36:9
 elapsed-requires : tie.Need-elapsed-requires
 elapsed-requires c κs = search needs
 
--- src/lib.rt:31:1
 returns : tie.Need-returns
 unfolding ton
 returns c =
@@ -21,7 +19,6 @@ returns c =
     let e : c .before .elapsed .result ≡ elapsed (a .step) (a .b) = c .before .elapsed .ensures in
     rw (e, o)
 
--- src/lib.rt:31:1
 returns-2 : tie.Need-returns-2
 unfolding ton
 returns-2 c =

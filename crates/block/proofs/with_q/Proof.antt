@@ -8,20 +8,16 @@ use Rattle.block.proofs.with_q.Reads as reads
 use Rattle.block.proofs.with_q.Lts as lts
 use Rattle.values.proofs.with_bit.Reads as with-bit-reads
 
--- src/lib.rt:38:9
 returns : tie.Need-returns
 unfolding withBit
 returns c = rw (le-ltb (c .before .args .i) 64 (omega arith))
 
--- src/lib.rt:40:31
 cast-with-bit : tie.Need-cast-with-bit
 cast-with-bit c = search needs
 
--- src/lib.rt:40:5
 with-bit-requires : tie.Need-with-bit-requires
 with-bit-requires c κs = search needs
 
--- src/lib.rt:34:1
 returns-2 : tie.Need-returns-2
 returns-2 c = search needs
 

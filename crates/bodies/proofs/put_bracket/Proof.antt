@@ -13,31 +13,24 @@ use Rattle.bodies.proofs.put_bracket.Lts as lts
 use Rattle.bodies.proofs.put_chain.Reads as put-chain-reads
 use Rattle.lines.proofs.put_part.Reads as put-part-reads
 
--- src/lib.rt:54:38
 slice-aggregate-put-part : tie.Need-slice-aggregate-put-part
 slice-aggregate-put-part c = search needs
 
--- src/lib.rt:54:9
 put-part-requires : tie.Need-put-part-requires
 put-part-requires c κs = search needs
 
--- src/lib.rt:55:9
 put-chain-requires : tie.Need-put-chain-requires
 put-chain-requires c κs = search needs
 
--- src/lib.rt:56:29
 slice-aggregate-put-part-2 : tie.Need-slice-aggregate-put-part-2
 slice-aggregate-put-part-2 c = search needs
 
--- src/lib.rt:56:5
 put-part-requires-2 : tie.Need-put-part-requires-2
 put-part-requires-2 c κs = search needs
 
--- src/lib.rt:42:1
 same-length : tie.Need-same-length
 same-length c = search needs
 
--- src/lib.rt:42:1
 returns : tie.Need-returns
 unfolding bracketOf partOf line operatorText
 returns c c' d h =

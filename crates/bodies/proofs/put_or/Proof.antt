@@ -23,19 +23,15 @@ use Rattle.bodies.proofs.put_chain.Reads as put-chain-reads
 use Rattle.lines.proofs.put_part.Reads as put-part-reads
 use Rattle.tables.proofs.pair_state.Reads as pair-state-reads
 
--- src/lib.rt:108:41
 slice-aggregate-put-part : tie.Need-slice-aggregate-put-part
 slice-aggregate-put-part c = search needs
 
--- src/lib.rt:108:9
 put-part-requires : tie.Need-put-part-requires
 put-part-requires c κs = search needs
 
--- src/lib.rt:108:9
 same-length : tie.Need-same-length
 same-length c = search needs
 
--- src/lib.rt:108:9
 returns : tie.Need-returns
 unfolding orOf table bodyOf orBody flatMap loadOf line operatorText operandText
 returns c c' d k =
@@ -43,27 +39,21 @@ returns c c' d k =
     let e : a .to - a .from ≡ 0 = omega arith in
     rw e (put-line (Ld False) (c .before .before .put-part .ensures))
 
--- src/lib.rt:118:9
 pair-state-requires : tie.Need-pair-state-requires
 pair-state-requires c κs = search needs
 
--- src/lib.rt:110:9
 put-chain-requires : tie.Need-put-chain-requires
 put-chain-requires c κs = search needs
 
--- src/lib.rt:129:9
 add-put-brackets : tie.Need-add-put-brackets
 add-put-brackets c = search needs
 
--- src/lib.rt:120:5
 put-brackets-requires : tie.Need-put-brackets-requires
 put-brackets-requires c κs = search needs
 
--- src/lib.rt:93:1
 same-length-2 : tie.Need-same-length-2
 same-length-2 c = search needs
 
--- src/lib.rt:93:1
 returns-2 : tie.Need-returns-2
 returns-2 c c' d k =
     let a = c .before .before .before .before .before .before .before .before .before .before .before .before .before .args in

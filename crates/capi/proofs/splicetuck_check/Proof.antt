@@ -3,18 +3,15 @@ use Rattle.capi.proofs.splicetuck_check.Statement.{statement}
 use Rattle.capi.proofs.splicetuck_check.Tie as tie
 use Rattle.capi.proofs.splicetuck_check.Reads as reads
 use Rattle.capi.proofs.splicetuck_check.Lts as lts
-use Rattle.capi.proofs.tell.Reads as tell-reads
+use Rattle.telling.proofs.tell.Reads as tell-reads
 use Rattle.chart.proofs.check.Reads as check-reads
 
--- src/lib.rt:61:10
 check-requires : tie.Need-check-requires
 check-requires c κs = search needs
 
--- src/lib.rt:61:5
 tell-requires : tie.Need-tell-requires
 tell-requires c κs = search needs
 
--- src/lib.rt:43:1
 returns : tie.Need-returns
 returns c = rw (c .before .check .ensures) at (c .tell .ensures)
 

@@ -43,24 +43,24 @@ use denote.Exit.{yes}
 use Rattle.meaning.specs.declared.Block.{Block}
 use Rattle.meaning.proofs.Block as T
 use Rattle.meaning.proofs.Block.Laws as T′
-use Rattle.programs.specs.declared.Ran.{Ran}
-use Rattle.programs.proofs.Ran as N
-use Rattle.programs.proofs.Ran.Laws as N′
-use Rattle.capi.specs.declared.Answer.{Answer}
-use Rattle.capi.proofs.Answer as AN
-use Rattle.capi.proofs.Answer.Laws as AN′
+use Rattle.meaning.specs.declared.Ran.{Ran}
+use Rattle.meaning.proofs.Ran as N
+use Rattle.meaning.proofs.Ran.Laws as N′
+use Rattle.telling.specs.declared.Answer.{Answer}
+use Rattle.telling.proofs.Answer as AN
+use Rattle.telling.proofs.Answer.Laws as AN′
 use Rattle.il.specs.Scans.{holding}
 use Rattle.row.specs.Lent.{LentAgain, lends-again, comes-back}
 use Rattle.programs.specs.Runs.{ProgramRan}
-use Rattle.capi.specs.Answers.{ProgramTold}
+use Rattle.telling.specs.Answers.{RanTold}
 use Rattle.programs.proofs.run_program as run-program-fn
 use Rattle.programs.proofs.run_program.Symbol as run-program-def
 use Rattle.programs.proofs.run_program.Symbol.{name as #programs·run-program}
 use Rattle.programs.proofs.run_program.Met as run-program-thm
-use Rattle.capi.proofs.tell_program as tell-program-fn
-use Rattle.capi.proofs.tell_program.Symbol as tell-program-def
-use Rattle.capi.proofs.tell_program.Symbol.{name as #capi·tell-program}
-use Rattle.capi.proofs.tell_program.Met as tell-program-thm
+use Rattle.telling.proofs.tell_run as tell-run-fn
+use Rattle.telling.proofs.tell_run.Symbol as tell-run-def
+use Rattle.telling.proofs.tell_run.Symbol.{name as #telling·tell-run}
+use Rattle.telling.proofs.tell_run.Met as tell-run-thm
 use Rattle.capi.proofs.splicetuck_run_program.Key.{name as #capi·splicetuck-run-program}
 use Rattle.capi.proofs.splicetuck_run_program as f
 use Rattle.capi.proofs.splicetuck_run_program.Statement as stated
@@ -102,8 +102,8 @@ module _ {M : Type 1} (𝓤 : URA M) (H : Heap 𝓤) (A : Atoms 𝓤) (mem : Mem
   abbrev The-run-program : Contract 𝓤
   The-run-program = tripleOf 𝓤 H A run-program-fn.signature (run-program-fn.spec 𝓤 H A mem run)
 
-  abbrev The-tell-program : Contract 𝓤
-  The-tell-program = tripleOf 𝓤 H A tell-program-fn.signature (tell-program-fn.spec 𝓤 H A mem run)
+  abbrev The-tell-run : Contract 𝓤
+  The-tell-run = tripleOf 𝓤 H A tell-run-fn.signature (tell-run-fn.spec 𝓤 H A mem run)
 
 module _ {M : Type 1} (𝓤 : URA M) (H : Heap 𝓤) (A : Atoms 𝓤) (W : Given 𝓤 H A) (mem : Memory → SProp 𝓤) (run : Routine → Fun 𝓤) where
   typed-T : (d : Block) (w : Val) → Is-T d w → Holds (hasTy T′.mir w) × WT w
@@ -202,34 +202,34 @@ module _ {M : Type 1} (𝓤 : URA M) (H : Heap 𝓤) (A : Atoms 𝓤) (W : Given
         move ! (5 ∷ 4 ∷ 3 ∷ 2 ∷ 0 ∷ 11 ∷ 10 ∷ 7 ∷ []) $
         frame ! $ frame ! $ frame ! $ frame ! $ frame ! $ frame ! $ frame ! $ keep ! (0 ∷ []) $ done !)))))))
 
-  -- ---- `tell-program`
+  -- ---- `tell-run`
   module _ (a₀ : Ran) (v₀ : Val) (is₀ : Is N.the-row a₀ (v₀ ∷ [])) where
-    abbrev to-tell-program : The-tell-program 𝓤 H A mem run .Ghost
-    to-tell-program = ((tt, tt, tt, (a₀, tt), (v₀ ∷ [], tt)), tt)
+    abbrev to-tell-run : The-tell-run 𝓤 H A mem run .Ghost
+    to-tell-run = ((tt, tt, tt, (a₀, tt), (v₀ ∷ [], tt)), tt)
 
-    goes-tell-program : ent 𝓤 (⋆ 𝓤 H A (‵ ftrue ∷ [])) (The-tell-program 𝓤 H A mem run .pre to-tell-program)
-    goes-tell-program =
+    goes-tell-run : ent 𝓤 (⋆ 𝓤 H A (‵ ftrue ∷ [])) (The-tell-run 𝓤 H A mem run .pre to-tell-run)
+    goes-tell-run =
         qed W (‵ ftrue ∷ []) ∵
         owned ! N.the-row (Is N.the-row) (EL.makes N.the-type N′.the-plain 𝓤 H A) a₀ _ is₀ $ fjoin ! $
         nothing ! $
         join ! $ frame ! $ done !
 
-    abbrev Gave-tell-program : (w : Val) (r : Answer) → Item 𝓤
-    Gave-tell-program w r = given (Is AN.the-row r (w ∷ []) × (ProgramTold (a₀) r)) (‵ ftrue)
+    abbrev Gave-tell-run : (w : Val) (r : Answer) → Item 𝓤
+    Gave-tell-run w r = given (Is AN.the-row r (w ∷ []) × (RanTold (a₀) r)) (‵ ftrue)
 
-    gives-tell-program : (w : Val) → ent 𝓤 (The-tell-program 𝓤 H A mem run .post to-tell-program w) (H .⇛ (ex 𝓤 (λ (r : Answer). mean 𝓤 H A (Gave-tell-program w r))))
-    gives-tell-program w =
-        qed W (raw (The-tell-program 𝓤 H A mem run .post to-tell-program w) ∷ []) ∵ updating ! $
-        use1 W (later (some (λ (r : Answer). (‵ ftrue ⊛ ‵ (AN.the-row .own r (w ∷ []))) ⊛ some (λ (zs : (Unit {0} × Unit {0})). ‵ (lasts tell-program-fn.ended tt (a₀, tt) zs) ⊛ raw (fact 𝓤 (ProgramTold (a₀) r)))))) (id⊢ 𝓤 _) $ await ! tt $
+    gives-tell-run : (w : Val) → ent 𝓤 (The-tell-run 𝓤 H A mem run .post to-tell-run w) (H .⇛ (ex 𝓤 (λ (r : Answer). mean 𝓤 H A (Gave-tell-run w r))))
+    gives-tell-run w =
+        qed W (raw (The-tell-run 𝓤 H A mem run .post to-tell-run w) ∷ []) ∵ updating ! $
+        use1 W (later (some (λ (r : Answer). (‵ ftrue ⊛ ‵ (AN.the-row .own r (w ∷ []))) ⊛ some (λ (zs : (Unit {0} × Unit {0})). ‵ (lasts tell-run-fn.ended tt (a₀, tt) zs) ⊛ raw (fact 𝓤 (RanTold (a₀) r)))))) (id⊢ 𝓤 _) $ await ! tt $
         pick ! (λ r. split ! $ move ! (1 ∷ []) $
         pick ! (λ zs. split ! $ move ! (1 ∷ []) $
-        heard ! (ProgramTold (a₀) r) (λ e.
+        heard ! (RanTold (a₀) r) (λ e.
         move ! (1 ∷ []) $
         split ! $
         move ! (1 ∷ []) $
         peeks ! AN.the-row (Is AN.the-row) (shows 𝓤 H A AN.the-row) r (w ∷ []) (λ isr.
         at-once ! $
-        show ! (λ (r : Answer). mean 𝓤 H A (Gave-tell-program w r)) r $
+        show ! (λ (r : Answer). mean 𝓤 H A (Gave-tell-run w r)) r $
         check ! (isr, e) $
         nothing ! $ keep ! (0 ∷ []) $ done !))))
 
@@ -286,7 +286,7 @@ module _ {M : Type 1} (𝓤 : URA M) (H : Heap 𝓤) (A : Atoms 𝓤) (W : Given
   abbrev Post : Val → SProp 𝓤
   Post = walkOf 𝓤 H A f.ended stayed (f.clauses 𝓤 H A mem run) .post bound
 
-  exits : (r : Answer) (fs′ : List ℕ) (bs′ : List Block) (os′ : List ℕ) → Is AN.the-row r ((mach-AN r) ∷ []) → length fs′ ≡ length fs₀ → length bs′ ≡ length bs₀ → length os′ ≡ length os₀ → ((q : Ran) × ProgramRan st ws xs (holding fs₀ bs₀) os₀ q (holding fs′ bs′) os′ × ProgramTold q r)
+  exits : (r : Answer) (fs′ : List ℕ) (bs′ : List Block) (os′ : List ℕ) → Is AN.the-row r ((mach-AN r) ∷ []) → length fs′ ≡ length fs₀ → length bs′ ≡ length bs₀ → length os′ ≡ length os₀ → ((q : Ran) × ProgramRan st ws xs (holding fs₀ bs₀) os₀ q (holding fs′ bs′) os′ × RanTold q r)
       → ent 𝓤 (⋆ 𝓤 H A ((‵ (flft κ₁ q₁) ⊛ (‵ (flft κ₂ q₂) ⊛ (‵ (flft κ₃ q₃) ⊛ (‵ (flft κ₄ q₄) ⊛ (‵ (flft κ₅ q₅) ⊛ ‵ ftrue))))) ∷ ‵ Own-ws ∷ ‵ (Own-fs fs′) ∷ ‵ (Own-bs bs′) ∷ ‵ Own-xs ∷ ‵ (Own-os os′) ∷ [])) (Post (mach-AN r))
   exits r fs′ bs′ os′ isr n₂ n₃ n₅ e =
       qed W ((‵ (flft κ₁ q₁) ⊛ (‵ (flft κ₂ q₂) ⊛ (‵ (flft κ₃ q₃) ⊛ (‵ (flft κ₄ q₄) ⊛ (‵ (flft κ₅ q₅) ⊛ ‵ ftrue))))) ∷ ‵ Own-ws ∷ ‵ (Own-fs fs′) ∷ ‵ (Own-bs bs′) ∷ ‵ Own-xs ∷ ‵ (Own-os os′) ∷ []) ∵
@@ -305,9 +305,9 @@ module _ {M : Type 1} (𝓤 : URA M) (H : Heap 𝓤) (A : Atoms 𝓤) (W : Given
       nothing ! $ fjoin ! $
       frame ! $ owned ! AN.the-row (Is AN.the-row) (LL.makes AN.the-type AN′.the-plain 𝓤 H A) r _ isr $ done !
 
-  walk : (𝓣 : Tables 𝓤 H) → Triple 𝓤 (𝓣 .C #programs·run-program) (The-run-program 𝓤 H A mem run) → Triple 𝓤 (𝓣 .C #capi·tell-program) (The-tell-program 𝓤 H A mem run)
+  walk : (𝓣 : Tables 𝓤 H) → Triple 𝓤 (𝓣 .C #programs·run-program) (The-run-program 𝓤 H A mem run) → Triple 𝓤 (𝓣 .C #telling·tell-run) (The-tell-run 𝓤 H A mem run)
       → ent 𝓤 (onEntry 𝓤 H A f.signature (κ₁, (κ₂, (κ₃, (κ₄, (κ₅, tt))))) (q₁, (q₂, (q₃, (q₄, (q₅, tt))))) (st, ((x-ws γ₁ ws), ((x-fs γ₂ fs₀), ((x-bs γ₃ bs₀), ((x-xs γ₄ xs), ((x-os γ₅ os₀), tt)))))) ((vint w32 st) ∷ [], (v-ws ∷ [], (v-fs ∷ [], (v-bs ∷ [], (v-xs ∷ [], (v-os ∷ [], tt))))))) (WpFn 𝓤 H (𝓣 .C) (𝓣 .Λ) code.function ((vint w32 st) ∷ v-ws ∷ v-fs ∷ v-bs ∷ v-xs ∷ v-os ∷ []) Post)
-  walk 𝓣 known-run-program known-tell-program =
+  walk 𝓣 known-run-program known-tell-run =
       qed W ((‵ (flft κ₁ q₁) ⊛ (‵ (flft κ₂ q₂) ⊛ (‵ (flft κ₃ q₃) ⊛ (‵ (flft κ₄ q₄) ⊛ (‵ (flft κ₅ q₅) ⊛ ‵ ftrue))))) ∷ ‵ (owns (u32 ∷ ShrSlice (named 0) κ₁ u32 ∷ MutSlice (named 1) κ₂ u8 ∷ MutSlice (named 2) κ₃ T.the-row ∷ ShrSlice (named 3) κ₄ u64 ∷ MutSlice (named 4) κ₅ u64 ∷ []) (st, ((x-ws γ₁ ws), ((x-fs γ₂ fs₀), ((x-bs γ₃ bs₀), ((x-xs γ₄ xs), ((x-os γ₅ os₀), tt)))))) ((vint w32 st) ∷ [], (v-ws ∷ [], (v-fs ∷ [], (v-bs ∷ [], (v-xs ∷ [], (v-os ∷ [], tt))))))) ∷ []) ∵
       enter ! (𝓣 .C) (𝓣 .Λ) code.function ((vint w32 st) ∷ v-ws ∷ v-fs ∷ v-bs ∷ v-xs ∷ v-os ∷ []) _ $
       alloc1 ! (λ l₀.
@@ -414,9 +414,9 @@ module _ {M : Type 1} (𝓤 : URA M) (H : Heap 𝓤) (A : Atoms 𝓤) (W : Given
       move ! (0 ∷ 10 ∷ 5 ∷ []) $
       use3 W (later (‵ (Own-os z₁₅) ⊛ ‵ (flft κ₅ q₅))) (comes-back u64 κ₅ (ν₁₅ ∷ []) q₅ γ₅ b₅ o₅ (length os₀) 𝓤 H A W (named 4) (named 4) os₀ δ₁₅ z₁₅ room₅ (e₁ .1 .1 .1 .1) ((e₁ .1 .1 .1 .1) ∙ refl)) $ await ! tt $ split ! $
       move ! (9 ∷ 7 ∷ 4 ∷ 5 ∷ 2 ∷ 3 ∷ 8 ∷ 6 ∷ 0 ∷ 1 ∷ []) $
-      nothing ! $ use1 W (raw (The-tell-program 𝓤 H A mem run .pre (to-tell-program 𝓤 H A W mem run r₁ (mach-N r₁) (subst (Is-N r₁) (told-N r₁ w₁ (e₁ .0)) (e₁ .0))))) (goes-tell-program 𝓤 H A W mem run r₁ (mach-N r₁) (subst (Is-N r₁) (told-N r₁ w₁ (e₁ .0)) (e₁ .0))) $
-      calls-at ! (fmOf 𝓤 H (W .laws) 𝓣) (The-tell-program 𝓤 H A mem run) known-tell-program (to-tell-program 𝓤 H A W mem run r₁ (mach-N r₁) (subst (Is-N r₁) (told-N r₁ w₁ (e₁ .0)) (e₁ .0))) (and-then ! (load ! (from ! (stop !)) (look ! 23 refl)) (no-more !)) (λ w₂.
-      use1 W (later (some (λ (r : Answer). Gave-tell-program 𝓤 H A W mem run r₁ (mach-N r₁) (subst (Is-N r₁) (told-N r₁ w₁ (e₁ .0)) (e₁ .0)) w₂ r))) (gives-tell-program 𝓤 H A W mem run r₁ (mach-N r₁) (subst (Is-N r₁) (told-N r₁ w₁ (e₁ .0)) (e₁ .0)) w₂) $ await ! tt $
+      nothing ! $ use1 W (raw (The-tell-run 𝓤 H A mem run .pre (to-tell-run 𝓤 H A W mem run r₁ (mach-N r₁) (subst (Is-N r₁) (told-N r₁ w₁ (e₁ .0)) (e₁ .0))))) (goes-tell-run 𝓤 H A W mem run r₁ (mach-N r₁) (subst (Is-N r₁) (told-N r₁ w₁ (e₁ .0)) (e₁ .0))) $
+      calls-at ! (fmOf 𝓤 H (W .laws) 𝓣) (The-tell-run 𝓤 H A mem run) known-tell-run (to-tell-run 𝓤 H A W mem run r₁ (mach-N r₁) (subst (Is-N r₁) (told-N r₁ w₁ (e₁ .0)) (e₁ .0))) (and-then ! (load ! (from ! (stop !)) (look ! 23 refl)) (no-more !)) (λ w₂.
+      use1 W (later (some (λ (r : Answer). Gave-tell-run 𝓤 H A W mem run r₁ (mach-N r₁) (subst (Is-N r₁) (told-N r₁ w₁ (e₁ .0)) (e₁ .0)) w₂ r))) (gives-tell-run 𝓤 H A W mem run r₁ (mach-N r₁) (subst (Is-N r₁) (told-N r₁ w₁ (e₁ .0)) (e₁ .0)) w₂) $ await ! tt $
       pick ! (λ r₂.
       learn ! (λ e₂.
       drop ! $
@@ -478,10 +478,10 @@ module _ {M : Type 1} (𝓤 : URA M) (H : Heap 𝓤) (A : Atoms 𝓤) (W : Given
       join ! $
       by ! (exits r₂ z₁₂ z₁₃ z₁₅ (subst (Is-AN r₂) (told-AN r₂ w₂ (e₂ .0)) (e₂ .0)) ((e₁ .1 .1 .0) ∙ refl) ((e₁ .1 .1 .1 .0) ∙ refl) ((e₁ .1 .1 .1 .1) ∙ refl) (r₁, (e₁ .1 .0), (e₂ .1))))))))))))))))))))))))))))))))
 
-module _ {M : Type 1} (𝓤 : URA M) (H : Heap 𝓤) (A : Atoms 𝓤) (W : Given 𝓤 H A) (mem : Memory → SProp 𝓤) (run : Routine → Fun 𝓤) (𝓣 : Tables 𝓤 H) (known-run-program : Triple 𝓤 (𝓣 .C #programs·run-program) (The-run-program 𝓤 H A mem run)) (known-tell-program : Triple 𝓤 (𝓣 .C #capi·tell-program) (The-tell-program 𝓤 H A mem run)) where
+module _ {M : Type 1} (𝓤 : URA M) (H : Heap 𝓤) (A : Atoms 𝓤) (W : Given 𝓤 H A) (mem : Memory → SProp 𝓤) (run : Routine → Fun 𝓤) (𝓣 : Tables 𝓤 H) (known-run-program : Triple 𝓤 (𝓣 .C #programs·run-program) (The-run-program 𝓤 H A mem run)) (known-tell-run : Triple 𝓤 (𝓣 .C #telling·tell-run) (The-tell-run 𝓤 H A mem run)) where
   walks : Walks 𝓤 H A f.ended stayed (WpFn 𝓤 H (𝓣 .C) (𝓣 .Λ) code.function) (f.clauses 𝓤 H A mem run)
   walks = walked 𝓤 H A f.ended stayed (f.clauses 𝓤 H A mem run) (WpFn 𝓤 H (𝓣 .C) (𝓣 .Λ) code.function) (λ κs. (uint-vals w32, (slice-vals, (slice-vals, (slice-vals, (slice-vals, (slice-vals, tt))))))) (λ κs. (uint-tells w32, (shr-slice-tells (named 0) (κs .0) u32, (mut-slice-tells (named 1) (κs .1 .0) u8, (mut-slice-tells (named 2) (κs .1 .1 .0) T.the-row, (shr-slice-tells (named 3) (κs .1 .1 .1 .0) u64, (mut-slice-tells (named 4) (κs .1 .1 .1 .1 .0) u64, tt)))))))
-      (λ κs qs bounds a g are. via 𝓤 _ (fst∗ 𝓤 _ (emp 𝓤)) (walk 𝓤 H A W mem run (κs .0) (qs .0) (a .1 .0 .ptr .0) (a .1 .0 .ptr .1) (a .1 .0 .name) (a .1 .0 .now) (are .1 .0 .0 .1) (κs .1 .0) (qs .1 .0) (a .1 .1 .0 .ptr .0) (a .1 .1 .0 .ptr .1) (a .1 .1 .0 .name) (a .1 .1 .0 .now) (are .1 .1 .0 .0 .1) (κs .1 .1 .0) (qs .1 .1 .0) (a .1 .1 .1 .0 .ptr .0) (a .1 .1 .1 .0 .ptr .1) (a .1 .1 .1 .0 .name) (a .1 .1 .1 .0 .now) (are .1 .1 .1 .0 .0 .1) (κs .1 .1 .1 .0) (qs .1 .1 .1 .0) (a .1 .1 .1 .1 .0 .ptr .0) (a .1 .1 .1 .1 .0 .ptr .1) (a .1 .1 .1 .1 .0 .name) (a .1 .1 .1 .1 .0 .now) (are .1 .1 .1 .1 .0 .0 .1) (κs .1 .1 .1 .1 .0) (qs .1 .1 .1 .1 .0) (a .1 .1 .1 .1 .1 .0 .ptr .0) (a .1 .1 .1 .1 .1 .0 .ptr .1) (a .1 .1 .1 .1 .1 .0 .name) (a .1 .1 .1 .1 .1 .0 .now) (are .1 .1 .1 .1 .1 .0 .0 .1) (a .0) (refl, are .0 .1) 𝓣 known-run-program known-tell-program))
+      (λ κs qs bounds a g are. via 𝓤 _ (fst∗ 𝓤 _ (emp 𝓤)) (walk 𝓤 H A W mem run (κs .0) (qs .0) (a .1 .0 .ptr .0) (a .1 .0 .ptr .1) (a .1 .0 .name) (a .1 .0 .now) (are .1 .0 .0 .1) (κs .1 .0) (qs .1 .0) (a .1 .1 .0 .ptr .0) (a .1 .1 .0 .ptr .1) (a .1 .1 .0 .name) (a .1 .1 .0 .now) (are .1 .1 .0 .0 .1) (κs .1 .1 .0) (qs .1 .1 .0) (a .1 .1 .1 .0 .ptr .0) (a .1 .1 .1 .0 .ptr .1) (a .1 .1 .1 .0 .name) (a .1 .1 .1 .0 .now) (are .1 .1 .1 .0 .0 .1) (κs .1 .1 .1 .0) (qs .1 .1 .1 .0) (a .1 .1 .1 .1 .0 .ptr .0) (a .1 .1 .1 .1 .0 .ptr .1) (a .1 .1 .1 .1 .0 .name) (a .1 .1 .1 .1 .0 .now) (are .1 .1 .1 .1 .0 .0 .1) (κs .1 .1 .1 .1 .0) (qs .1 .1 .1 .1 .0) (a .1 .1 .1 .1 .1 .0 .ptr .0) (a .1 .1 .1 .1 .1 .0 .ptr .1) (a .1 .1 .1 .1 .1 .0 .name) (a .1 .1 .1 .1 .1 .0 .now) (are .1 .1 .1 .1 .1 .0 .0 .1) (a .0) (refl, are .0 .1) 𝓣 known-run-program known-tell-run))
 
   meets : Meets 𝓤 H A f.signature (WpFn 𝓤 H (𝓣 .C) (𝓣 .Λ) code.function) (f.spec 𝓤 H A mem run)
   meets = walk-meets 𝓤 H A f.ended stayed W (goes-dropped 𝓤 H A W 5 (plain (λ _. u32)) yes (λ κs x f. refl), (goes-none-slice 𝓤 H A W 5 (0 ∷ []) tt (plain (λ _. u32)) yes, (goes-slice 𝓤 H A W 5 1 tt (plain (λ _. u8)), (goes-slice 𝓤 H A W 5 2 tt (plain (λ _. T.the-row)), (goes-none-slice 𝓤 H A W 5 (3 ∷ []) tt (plain (λ _. u64)) yes, (goes-slice 𝓤 H A W 5 4 tt (plain (λ _. u64)), tt)))))) (f.clauses 𝓤 H A mem run) (WpFn 𝓤 H (𝓣 .C) (𝓣 .Λ) code.function) (WpFn-mono 𝓤 H (W .laws) 𝓣 code.function) walks
@@ -493,4 +493,4 @@ splicetuck-run-program-spec 𝓤 H 𝓜 𝓖 𝓡 =
     (tables 𝓤 H 𝓜 𝓡 code.env .C) (tables 𝓤 H 𝓜 𝓡 code.env .Λ) #capi·splicetuck-run-program code.function (code.unfolded 𝓤 H 𝓜 𝓡)
     (meets 𝓤 H (𝓖 .A) (givenOf 𝓤 H 𝓜 𝓖) (𝓜 .mem) (𝓡 .run) (tablesOf 𝓤 H 𝓜 (tables 𝓤 H 𝓜 𝓡 code.env))
     (cited 𝓤 H (The-run-program 𝓤 H (𝓖 .A) (𝓜 .mem) (𝓡 .run)) 𝓜 𝓡 code.env #programs·run-program run-program-def.routine code.calls-programs·run-program (run-program-thm.met 𝓤 H 𝓜 𝓖 𝓡))
-    (cited 𝓤 H (The-tell-program 𝓤 H (𝓖 .A) (𝓜 .mem) (𝓡 .run)) 𝓜 𝓡 code.env #capi·tell-program tell-program-def.routine code.calls-capi·tell-program (tell-program-thm.met 𝓤 H 𝓜 𝓖 𝓡)))
+    (cited 𝓤 H (The-tell-run 𝓤 H (𝓖 .A) (𝓜 .mem) (𝓡 .run)) 𝓜 𝓡 code.env #telling·tell-run tell-run-def.routine code.calls-telling·tell-run (tell-run-thm.met 𝓤 H 𝓜 𝓖 𝓡)))

@@ -46,21 +46,21 @@ use Rattle.meaning.proofs.Block.Laws as T′
 use Rattle.programs.specs.declared.Scanned.{Scanned}
 use Rattle.programs.proofs.Scanned as O
 use Rattle.programs.proofs.Scanned.Laws as O′
-use Rattle.capi.specs.declared.Scan.{Scan}
-use Rattle.capi.proofs.Scan as SC
-use Rattle.capi.proofs.Scan.Laws as SC′
+use Rattle.telling.specs.declared.Scan.{Scan}
+use Rattle.telling.proofs.Scan as SC
+use Rattle.telling.proofs.Scan.Laws as SC′
 use Rattle.il.specs.Scans.{holding}
 use Rattle.row.specs.Lent.{LentAgain, lends-again, comes-back}
 use Rattle.programs.specs.Runs.{ProgramScanned}
-use Rattle.capi.specs.Answers.{ScanTold}
+use Rattle.telling.specs.Answers.{ScanTold}
 use Rattle.programs.proofs.scan_program as scan-program-fn
 use Rattle.programs.proofs.scan_program.Symbol as scan-program-def
 use Rattle.programs.proofs.scan_program.Symbol.{name as #programs·scan-program}
 use Rattle.programs.proofs.scan_program.Met as scan-program-thm
-use Rattle.capi.proofs.tell_scan as tell-scan-fn
-use Rattle.capi.proofs.tell_scan.Symbol as tell-scan-def
-use Rattle.capi.proofs.tell_scan.Symbol.{name as #capi·tell-scan}
-use Rattle.capi.proofs.tell_scan.Met as tell-scan-thm
+use Rattle.telling.proofs.tell_scan as tell-scan-fn
+use Rattle.telling.proofs.tell_scan.Symbol as tell-scan-def
+use Rattle.telling.proofs.tell_scan.Symbol.{name as #telling·tell-scan}
+use Rattle.telling.proofs.tell_scan.Met as tell-scan-thm
 use Rattle.capi.proofs.splicetuck_scan_program.Key.{name as #capi·splicetuck-scan-program}
 use Rattle.capi.proofs.splicetuck_scan_program as f
 use Rattle.capi.proofs.splicetuck_scan_program.Statement as stated
@@ -265,7 +265,7 @@ module _ {M : Type 1} (𝓤 : URA M) (H : Heap 𝓤) (A : Atoms 𝓤) (W : Given
       nothing ! $ fjoin ! $
       frame ! $ owned ! SC.the-row (Is SC.the-row) (LL.makes SC.the-type SC′.the-plain 𝓤 H A) r _ isr $ done !
 
-  walk : (𝓣 : Tables 𝓤 H) → Triple 𝓤 (𝓣 .C #programs·scan-program) (The-scan-program 𝓤 H A mem run) → Triple 𝓤 (𝓣 .C #capi·tell-scan) (The-tell-scan 𝓤 H A mem run)
+  walk : (𝓣 : Tables 𝓤 H) → Triple 𝓤 (𝓣 .C #programs·scan-program) (The-scan-program 𝓤 H A mem run) → Triple 𝓤 (𝓣 .C #telling·tell-scan) (The-tell-scan 𝓤 H A mem run)
       → ent 𝓤 (onEntry 𝓤 H A f.signature (κ₁, (κ₂, (κ₃, tt))) (q₁, (q₂, (q₃, tt))) (st, ((x-ws γ₁ ws), ((x-fs γ₂ fs₀), ((x-bs γ₃ bs₀), (x, tt))))) ((vint w32 st) ∷ [], (v-ws ∷ [], (v-fs ∷ [], (v-bs ∷ [], ((vint w64 x) ∷ [], tt)))))) (WpFn 𝓤 H (𝓣 .C) (𝓣 .Λ) code.function ((vint w32 st) ∷ v-ws ∷ v-fs ∷ v-bs ∷ (vint w64 x) ∷ []) Post)
   walk 𝓣 known-scan-program known-tell-scan =
       qed W ((‵ (flft κ₁ q₁) ⊛ (‵ (flft κ₂ q₂) ⊛ (‵ (flft κ₃ q₃) ⊛ ‵ ftrue))) ∷ ‵ (owns (u32 ∷ ShrSlice (named 0) κ₁ u32 ∷ MutSlice (named 1) κ₂ u8 ∷ MutSlice (named 2) κ₃ T.the-row ∷ u64 ∷ []) (st, ((x-ws γ₁ ws), ((x-fs γ₂ fs₀), ((x-bs γ₃ bs₀), (x, tt))))) ((vint w32 st) ∷ [], (v-ws ∷ [], (v-fs ∷ [], (v-bs ∷ [], ((vint w64 x) ∷ [], tt)))))) ∷ []) ∵
@@ -397,7 +397,7 @@ module _ {M : Type 1} (𝓤 : URA M) (H : Heap 𝓤) (A : Atoms 𝓤) (W : Given
       join ! $
       by ! (exits r₂ z₁₂ z₁₃ (subst (Is-SC r₂) (told-SC r₂ w₂ (e₂ .0)) (e₂ .0)) ((e₁ .1 .1 .0) ∙ refl) ((e₁ .1 .1 .1) ∙ refl) (r₁, (e₁ .1 .0), (e₂ .1))))))))))))))))))))))))))
 
-module _ {M : Type 1} (𝓤 : URA M) (H : Heap 𝓤) (A : Atoms 𝓤) (W : Given 𝓤 H A) (mem : Memory → SProp 𝓤) (run : Routine → Fun 𝓤) (𝓣 : Tables 𝓤 H) (known-scan-program : Triple 𝓤 (𝓣 .C #programs·scan-program) (The-scan-program 𝓤 H A mem run)) (known-tell-scan : Triple 𝓤 (𝓣 .C #capi·tell-scan) (The-tell-scan 𝓤 H A mem run)) where
+module _ {M : Type 1} (𝓤 : URA M) (H : Heap 𝓤) (A : Atoms 𝓤) (W : Given 𝓤 H A) (mem : Memory → SProp 𝓤) (run : Routine → Fun 𝓤) (𝓣 : Tables 𝓤 H) (known-scan-program : Triple 𝓤 (𝓣 .C #programs·scan-program) (The-scan-program 𝓤 H A mem run)) (known-tell-scan : Triple 𝓤 (𝓣 .C #telling·tell-scan) (The-tell-scan 𝓤 H A mem run)) where
   walks : Walks 𝓤 H A f.ended stayed (WpFn 𝓤 H (𝓣 .C) (𝓣 .Λ) code.function) (f.clauses 𝓤 H A mem run)
   walks = walked 𝓤 H A f.ended stayed (f.clauses 𝓤 H A mem run) (WpFn 𝓤 H (𝓣 .C) (𝓣 .Λ) code.function) (λ κs. (uint-vals w32, (slice-vals, (slice-vals, (slice-vals, (uint-vals w64, tt)))))) (λ κs. (uint-tells w32, (shr-slice-tells (named 0) (κs .0) u32, (mut-slice-tells (named 1) (κs .1 .0) u8, (mut-slice-tells (named 2) (κs .1 .1 .0) T.the-row, (uint-tells w64, tt))))))
       (λ κs qs bounds a g are. via 𝓤 _ (fst∗ 𝓤 _ (emp 𝓤)) (walk 𝓤 H A W mem run (κs .0) (qs .0) (a .1 .0 .ptr .0) (a .1 .0 .ptr .1) (a .1 .0 .name) (a .1 .0 .now) (are .1 .0 .0 .1) (κs .1 .0) (qs .1 .0) (a .1 .1 .0 .ptr .0) (a .1 .1 .0 .ptr .1) (a .1 .1 .0 .name) (a .1 .1 .0 .now) (are .1 .1 .0 .0 .1) (κs .1 .1 .0) (qs .1 .1 .0) (a .1 .1 .1 .0 .ptr .0) (a .1 .1 .1 .0 .ptr .1) (a .1 .1 .1 .0 .name) (a .1 .1 .1 .0 .now) (are .1 .1 .1 .0 .0 .1) (a .0) (refl, are .0 .1) (a .1 .1 .1 .1 .0) (refl, are .1 .1 .1 .1 .0 .1) 𝓣 known-scan-program known-tell-scan))
@@ -412,4 +412,4 @@ splicetuck-scan-program-spec 𝓤 H 𝓜 𝓖 𝓡 =
     (tables 𝓤 H 𝓜 𝓡 code.env .C) (tables 𝓤 H 𝓜 𝓡 code.env .Λ) #capi·splicetuck-scan-program code.function (code.unfolded 𝓤 H 𝓜 𝓡)
     (meets 𝓤 H (𝓖 .A) (givenOf 𝓤 H 𝓜 𝓖) (𝓜 .mem) (𝓡 .run) (tablesOf 𝓤 H 𝓜 (tables 𝓤 H 𝓜 𝓡 code.env))
     (cited 𝓤 H (The-scan-program 𝓤 H (𝓖 .A) (𝓜 .mem) (𝓡 .run)) 𝓜 𝓡 code.env #programs·scan-program scan-program-def.routine code.calls-programs·scan-program (scan-program-thm.met 𝓤 H 𝓜 𝓖 𝓡))
-    (cited 𝓤 H (The-tell-scan 𝓤 H (𝓖 .A) (𝓜 .mem) (𝓡 .run)) 𝓜 𝓡 code.env #capi·tell-scan tell-scan-def.routine code.calls-capi·tell-scan (tell-scan-thm.met 𝓤 H 𝓜 𝓖 𝓡)))
+    (cited 𝓤 H (The-tell-scan 𝓤 H (𝓖 .A) (𝓜 .mem) (𝓡 .run)) 𝓜 𝓡 code.env #telling·tell-scan tell-scan-def.routine code.calls-telling·tell-scan (tell-scan-thm.met 𝓤 H 𝓜 𝓖 𝓡)))

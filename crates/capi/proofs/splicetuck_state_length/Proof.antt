@@ -5,41 +5,39 @@ use Rattle.capi.proofs.splicetuck_state_length.Statement.{statement}
 use Rattle.capi.proofs.splicetuck_state_length.Tie as tie
 use Rattle.capi.proofs.splicetuck_state_length.Reads as reads
 use Rattle.capi.proofs.splicetuck_state_length.Lts as lts
-use Rattle.capi.proofs.refused.Reads as refused-reads
+use Rattle.telling.proofs.accepted.Reads as accepted-reads
+use Rattle.telling.proofs.refused.Reads as refused-reads
 use Rattle.chart.proofs.check.Reads as check-reads
 use Rattle.stateread.proofs.state_length.Reads as state-length-reads
 
--- src/lib.rt:239:9
 check-requires : tie.Need-check-requires
 check-requires c κs = search needs
 
--- src/lib.rt:241:26
 enum-known-v : tie.Need-enum-known-v
 enum-known-v c = search needs
 
--- src/lib.rt:241:32
 refused-requires : tie.Need-refused-requires
 refused-requires c κs = search needs
 
--- src/lib.rt:245:21
 enum-told : tie.Need-enum-told
 enum-told c = search needs
 
--- src/lib.rt:245:21
 state-length-requires : tie.Need-state-length-requires
 state-length-requires c κs = search needs
 
--- src/lib.rt:221:1
+accepted-requires : tie.Need-accepted-requires
+accepted-requires c κs = search needs
+
 returns : tie.Need-returns
 returns c =
     let e = sym (c .before .before .before .before .check .ensures) ∙ c .before .before .v .given .1 in
     rw e (c .refused .ensures)
 
--- src/lib.rt:221:1
 returns-2 : tie.Need-returns-2
 returns-2 c =
-    let e = sym (c .before .before .before .check .ensures) ∙ c .before .enum-told .given .1 in
-    rw e (record { number = refl; place = refl; length = c .state-length .ensures _ refl refl (accepted-exactly _ .0 e) })
+    let e = sym (c .before .before .before .before .check .ensures) ∙ c .before .before .enum-told .given .1 in
+    let told = c .accepted .ensures in
+    rw e (record { number = told .number; place = told .place; length = told .length ∙ c .before .state-length .ensures _ refl refl (accepted-exactly _ .0 e) })
 
 pub splicetuck-state-length-spec : {M : Type 1} → statement M
 splicetuck-state-length-spec =
@@ -50,5 +48,6 @@ splicetuck-state-length-spec =
     refused-requires
     enum-told
     state-length-requires
+    accepted-requires
     returns
     returns-2)

@@ -37,9 +37,8 @@ sound : (c : Tables) → sizePasses c ≡ true → isRefused (verdictOf (tableCh
 sound c e f = record {
   initials = passed (checkOf c L.Initial) (first-goes (checkOf c L.Initial) (checkOf c L.Preset ∷ checkOf c L.TimerPair ∷ checkOf c L.OutputPair ∷ [])
       (rest-goes (checkOf c L.Hierarchy) (checkOf c L.Initial ∷ checkOf c L.Preset ∷ checkOf c L.TimerPair ∷ checkOf c L.OutputPair ∷ []) f));
-  hierarchy = hierarchy c f;
+  tree = record { few = few c e; hierarchy = hierarchy c f };
   falling = falling c (even c e) (hierarchy c f);
-  few = few c e;
   fewMoves = few-moves c e;
 }
 

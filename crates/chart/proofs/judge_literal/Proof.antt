@@ -9,7 +9,7 @@ use borrow.Author.Count.{below-none, below-more}
 use native.Mathlib.Numerals.{add-one}
 use native.Mathlib.Omega.{arith}
 use mathlib.Core.Bool.{true, true≢false}
-use mathlib.Core.Path.{_≡_, refl, sym, ap, _∙_}
+use mathlib.Core.Path.{_≡_, refl, sym, _∙_}
 use Prim.Native.Nat.{ℕ, _≤_, _<_, _-_, _/_}
 use Rattle.chart.proofs.judge_literal.Statement.{statement}
 use Rattle.chart.proofs.judge_literal.Tie as tie

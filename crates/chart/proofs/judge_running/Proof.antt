@@ -1,6 +1,6 @@
+use Prim.Native.Nat.{suc}
 use mathlib.Core.Path.{sym, ap, _∙_}
 use Rattle.meaning.specs.Hierarchy.{paired}
-use Rattle.idle.specs.Leaves.{tree}
 use borrow.Author.Needs.{needs}
 use Rattle.chart.proofs.judge_running.Statement.{statement}
 use Rattle.chart.proofs.judge_running.Tie as tie
@@ -24,7 +24,7 @@ returns : tie.Need-returns
 returns c c' e f g s o w hr hb z y =
     let r = c .before .before .before .before .before .before .before .before .before .paired-words in
     c .judge-idle .ensures c' f (c .before .before .before .before .run-below .ensures c'
-    (record { states = e; running = (λ n l p q h. r .ensures c' e (tree c' s) hr z n l p q h ∙ ap (λ ps. paired c' ps n l) (sym g)); sound = s }) hb y) o w
+    (record { states = e; running = (λ l n h p. r .ensures c' e (s .tree) hr z l n h p ∙ ap (λ ps. paired c' ps (suc n) l) (sym g)); sound = s }) hb y) o w
 
 pub judge-running-spec : {M : Type 1} → statement M
 judge-running-spec =

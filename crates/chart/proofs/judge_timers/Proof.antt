@@ -33,7 +33,7 @@ judge-running-requires-2 c κs = search needs
 
 returns-2 : tie.Need-returns-2
 returns-2 c c' e f g s o w =
-    c .before .before .judge-running2 .ensures c' e f g s o w (s .few) (s .few) (λ l. getD-equal 0 256 l)
+    c .before .before .judge-running2 .ensures c' e f g s o w (s .tree .few) (s .tree .few) (λ l. getD-equal 0 256 l)
     (λ l h. getD-replicate {A = ℕ} 256 l 18446744073709551615 0 h)
 
 pub judge-timers-spec : {M : Type 1} → statement M

@@ -1,3 +1,4 @@
+use borrow.Author.Needs.{needs}
 use native.Mathlib.Omega.{arith}
 use mathlib.Core.Path.{_≡_, refl, ap, sym, _∙_}
 use mathlib.Core.Bool.{true, false}
@@ -18,15 +19,18 @@ Inv-loop links asks s x y j₀ j = (j < 65536) × ((c : Tables) → Rules c → 
 abbrev μ-loop : tie.MeasureT-loop
 μ-loop links asks s x y j₀ j = j
 
-link-at-requires : tie.Need-link-at-requires Inv-loop μ-loop
-link-at-requires c κs = tt
+number-requires : tie.Need-number-requires Inv-loop μ-loop
+number-requires c κs = tt
+
+cast-j : tie.Need-cast-j Inv-loop μ-loop
+cast-j c = search needs
 
 loop-holds : tie.Need-loop-holds Inv-loop μ-loop
 loop-holds c = (
-  c .link-at .ensures .1,
+  c .number .ok,
   λ c' R L A h k.
       let s = c .before .before .before .args .s in
-      let e = c .link-at .ensures .0 ∙ L .0 s k in (
+      let e = c .number .ensures ∙ L .0 s k in (
         holding-skip c' _ s (moveCount c') ∙ ap (lastHolding c' _ s) (sym e),
         λ i z. (omega (arith, e, z, last-le c' s (moveCount c')), last-source c' s (moveCount c') i (sym e ∙ z)),
       ),
@@ -49,11 +53,14 @@ returns c c' R L A h k =
     let t : literalsHold c' (read (a .x) (a .y)) (b .j - 1) ≡ true = sym (A (b .j - 1) (a .x) (a .y) (q .0) (f .x .fits) (f .y .fits)) ∙ sym (c .before .hold .ensures (omega (arith, h, q .0, R .size .fewMoves))) ∙ c .if1 .taken in
     sym (r .0 ∙ ap (lastHolding c' (read (a .x) (a .y)) (a .s)) z ∙ holding-yes c' (read (a .x) (a .y)) (a .s) (b .j - 1) (q .1) t ∙ sym z)
 
-add-link-at : tie.Need-add-link-at Inv-loop μ-loop
-add-link-at c = omega (arith, c .before .before .before .loop .inv .0)
+add-number : tie.Need-add-number Inv-loop μ-loop
+add-number c = omega (arith, c .before .before .before .loop .inv .0)
 
-link-at-requires-2 : tie.Need-link-at-requires-2 Inv-loop μ-loop
-link-at-requires-2 c κs = tt
+number-requires-2 : tie.Need-number-requires-2 Inv-loop μ-loop
+number-requires-2 c κs = tt
+
+cast-next : tie.Need-cast-next Inv-loop μ-loop
+cast-next c = search needs
 
 returns-2 : tie.Need-returns-2 Inv-loop μ-loop
 returns-2 c c' R L A h k =
@@ -62,7 +69,7 @@ returns-2 c c' R L A h k =
     let r = b .inv .1 c' R L A h k in
     let z : b .j ≡ suc (b .j - 1) = omega arith in
     let q = r .1 (b .j - 1) z in
-    absurd (omega (arith, c .if2 .taken, c .before .link-at2 .ensures .0 ∙ next-link c' (moveCount c') (a .links .now) L (a .s) (b .j - 1) (b .j) (q .0) (q .1) z, last-le c' (a .s) (b .j - 1), z))
+    absurd (omega (arith, c .if2 .taken, c .before .number2 .ensures ∙ next-link c' (moveCount c') (a .links .now) L (a .s) (b .j - 1) (b .j) (q .0) (q .1) z, last-le c' (a .s) (b .j - 1), z))
 
 loop-less : tie.Need-loop-less Inv-loop μ-loop
 loop-less c = omega arith
@@ -72,14 +79,14 @@ loop-again c =
     let a = c .before .before .before .before .before .before .before .before .before .args in
     let f = c .before .before .before .before .before .before .before .before .before .fits in
     let b = c .before .before .before .before .before .loop in (
-      c .before .link-at2 .ensures .1,
+      c .before .number2 .ok,
       λ c' R L A h k.
           let v = read (a .x) (a .y) in
           let r = b .inv .1 c' R L A h k in
           let z : b .j ≡ suc (b .j - 1) = omega arith in
           let q = r .1 (b .j - 1) z in
           let t : literalsHold c' v (b .j - 1) ≡ false = sym (A (b .j - 1) (a .x) (a .y) (q .0) (f .x .fits) (f .y .fits)) ∙ sym (c .before .before .before .hold .ensures (omega (arith, h, q .0, R .size .fewMoves))) ∙ c .before .before .if1 .left in
-          let e = c .before .link-at2 .ensures .0 ∙ next-link c' (moveCount c') (a .links .now) L (a .s) (b .j - 1) (b .j) (q .0) (q .1) z in (
+          let e = c .before .number2 .ensures ∙ next-link c' (moveCount c') (a .links .now) L (a .s) (b .j - 1) (b .j) (q .0) (q .1) z in (
             r .0 ∙ ap (lastHolding c' v (a .s)) z ∙ holding-no c' v (a .s) (b .j - 1) (q .1) t ∙ ap (lastHolding c' v (a .s)) (sym e),
             λ i y. (omega (arith, e, y, last-le c' (a .s) (b .j - 1), q .0), last-source c' (a .s) (b .j - 1) i (sym e ∙ y)),
           ),
@@ -98,13 +105,15 @@ chosen-from-spec =
     (tie.spec
     Inv-loop
     μ-loop
-    link-at-requires
+    number-requires
+    cast-j
     loop-holds
     sub-hold
     hold-requires
     returns
-    add-link-at
-    link-at-requires-2
+    add-number
+    number-requires-2
+    cast-next
     returns-2
     loop-less
     loop-again

@@ -12,7 +12,7 @@ use Rattle.columns.proofs.narrow_32.Tie as tie
 use Rattle.columns.proofs.narrow_32.Reads as reads
 use Rattle.columns.proofs.narrow_32.Lts as lts
 use Rattle.columns.proofs.low_32.Reads as low-32-reads
-use Rattle.columns.proofs.store_32.Reads as store-32-reads
+use Rattle.slices.proofs.put_value.Reads as put-value-reads
 
 abbrev Inv-loop : tie.InvT-loop
 Inv-loop from to₀ i₀ to i = (i ≤ length from) × (length to ≡ length to₀) × (sets to i (map low32 (drop i from)) ≡ sets to₀ 0 (map low32 from))
@@ -20,49 +20,39 @@ Inv-loop from to₀ i₀ to i = (i ≤ length from) × (length to ≡ length to�
 abbrev μ-loop : tie.MeasureT-loop
 μ-loop from to₀ i₀ to i = length from - i
 
--- src/lib.rt:62:5
 loop-holds : tie.Need-loop-holds Inv-loop μ-loop
 loop-holds c = (search needs, refl, refl)
 
--- src/lib.rt:63:32
 mul-low-32 : tie.Need-mul-low-32 Inv-loop μ-loop
 mul-low-32 c = search needs
 
--- src/lib.rt:63:32
 shared-slice-read-low-32 : tie.Need-shared-slice-read-low-32 Inv-loop μ-loop
 shared-slice-read-low-32 c = search needs
 
--- src/lib.rt:63:25
 low-32-requires : tie.Need-low-32-requires Inv-loop μ-loop
 low-32-requires c κs = search needs
 
--- src/lib.rt:63:9
-store-32-requires : tie.Need-store-32-requires Inv-loop μ-loop
-store-32-requires c κs = search needs
+put-value-requires : tie.Need-put-value-requires Inv-loop μ-loop
+put-value-requires c κs = search needs
 
--- src/lib.rt:64:9
 add-i : tie.Need-add-i Inv-loop μ-loop
 add-i c = search needs
 
--- src/lib.rt:62:5
 loop-less : tie.Need-loop-less Inv-loop μ-loop
 loop-less c = omega arith
 
--- src/lib.rt:62:5
 loop-again : tie.Need-loop-again Inv-loop μ-loop
 loop-again c =
     let k = c .before .before .before .before .before .before .before in
     let from : List ℕ = k .before .before .before .args .from .now in
     let h : k .loop .i < length from = omega arith in
-    let e : c .before .before .store-32 .last .0 ≡ set (k .loop .to) (k .loop .i) (low32 (getD from (k .loop .i) 0)) =
-    c .before .before .store-32 .ensures ∙ ap (set (k .loop .to) (k .loop .i)) (c .before .before .before .low-32 .ensures) in
+    let e : c .before .before .put-value .last .0 ≡ set (k .loop .to) (k .loop .i) (low32 (getD from (k .loop .i) 0)) =
+    c .before .before .put-value .ensures ∙ ap (set (k .loop .to) (k .loop .i)) (c .before .before .before .low-32 .ensures) in
     (omega arith, ap length e ∙ length-set (k .loop .to) (k .loop .i) (low32 (getD from (k .loop .i) 0)) ∙ k .loop .inv .1, rw (add-one, e) (stores-next low32 (k .loop .to) from (k .loop .i) h ∙ k .loop .inv .2))
 
--- src/lib.rt:58:1
 same-length : tie.Need-same-length Inv-loop μ-loop
 same-length c = c .before .loop .inv .1
 
--- src/lib.rt:58:1
 returns : tie.Need-returns Inv-loop μ-loop
 returns c =
     let e = drop-of-length-le (c .before .before .before .before .args .from .now) {i = c .before .loop .i} (c .loop-test .left) in
@@ -78,7 +68,7 @@ narrow-32-spec =
     mul-low-32
     shared-slice-read-low-32
     low-32-requires
-    store-32-requires
+    put-value-requires
     add-i
     loop-less
     loop-again

@@ -13,7 +13,7 @@ use Rattle.columns.proofs.narrow_signed.Statement.{statement}
 use Rattle.columns.proofs.narrow_signed.Tie as tie
 use Rattle.columns.proofs.narrow_signed.Reads as reads
 use Rattle.columns.proofs.narrow_signed.Lts as lts
-use Rattle.columns.proofs.store_signed.Reads as store-signed-reads
+use Rattle.slices.proofs.put_signed.Reads as put-signed-reads
 use Rattle.ended.proofs.signed.Reads as signed-reads
 
 abbrev Inv-loop : tie.InvT-loop
@@ -22,49 +22,39 @@ Inv-loop from to₀ i₀ to i = (i ≤ length from) × (length to ≡ length to�
 abbrev μ-loop : tie.MeasureT-loop
 μ-loop from to₀ i₀ to i = length from - i
 
--- src/lib.rt:73:5
 loop-holds : tie.Need-loop-holds Inv-loop μ-loop
 loop-holds c = (search needs, refl, refl)
 
--- src/lib.rt:74:43
 mul-signed : tie.Need-mul-signed Inv-loop μ-loop
 mul-signed c = search needs
 
--- src/lib.rt:74:43
 shared-slice-read-signed : tie.Need-shared-slice-read-signed Inv-loop μ-loop
 shared-slice-read-signed c = search needs
 
--- src/lib.rt:74:29
 signed-requires : tie.Need-signed-requires Inv-loop μ-loop
 signed-requires c κs = search needs
 
--- src/lib.rt:74:9
-store-signed-requires : tie.Need-store-signed-requires Inv-loop μ-loop
-store-signed-requires c κs = search needs
+put-signed-requires : tie.Need-put-signed-requires Inv-loop μ-loop
+put-signed-requires c κs = search needs
 
--- src/lib.rt:75:9
 add-i : tie.Need-add-i Inv-loop μ-loop
 add-i c = search needs
 
--- src/lib.rt:73:5
 loop-less : tie.Need-loop-less Inv-loop μ-loop
 loop-less c = omega arith
 
--- src/lib.rt:73:5
 loop-again : tie.Need-loop-again Inv-loop μ-loop
 loop-again c =
     let k = c .before .before .before .before .before .before in
     let from : List ℕ = k .before .before .args .from .now in
     let h : k .loop .i < length from = omega arith in
-    let e : c .before .store-signed .last .0 ≡ set (k .loop .to) (k .loop .i) (signedOf (getD from (k .loop .i) 0)) =
-    c .before .store-signed .ensures ∙ ap (set (k .loop .to) (k .loop .i)) (toZ-ofZ (sfits-of (c .before .before .signed .ok)) ∙ c .before .before .signed .ensures) in
+    let e : c .before .put-signed .last .0 ≡ set (k .loop .to) (k .loop .i) (signedOf (getD from (k .loop .i) 0)) =
+    c .before .put-signed .ensures ∙ ap (set (k .loop .to) (k .loop .i)) (toZ-ofZ (sfits-of (c .before .before .signed .ok)) ∙ c .before .before .signed .ensures) in
     (omega arith, ap length e ∙ length-set (k .loop .to) (k .loop .i) (signedOf (getD from (k .loop .i) 0)) ∙ k .loop .inv .1, rw (add-one, e) (stores-next signedOf (k .loop .to) from (k .loop .i) h ∙ k .loop .inv .2))
 
--- src/lib.rt:69:1
 same-length : tie.Need-same-length Inv-loop μ-loop
 same-length c = c .before .loop .inv .1
 
--- src/lib.rt:69:1
 returns : tie.Need-returns Inv-loop μ-loop
 returns c =
     let e = drop-of-length-le (c .before .before .before .args .from .now) {i = c .before .loop .i} (c .loop-test .left) in
@@ -80,7 +70,7 @@ narrow-signed-spec =
     mul-signed
     shared-slice-read-signed
     signed-requires
-    store-signed-requires
+    put-signed-requires
     add-i
     loop-less
     loop-again

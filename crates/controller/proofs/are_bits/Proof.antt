@@ -4,7 +4,6 @@ use Prim.Native.Nat.{ℕ, _-_, _≤_, _<_}
 use mathlib.Core.Bool.{false≢true}
 use mathlib.Core.Path.{refl}
 use borrow.Author.Count.{below-more}
-use borrow.Author.Needs.{needs}
 use Rattle.controller.proofs.are_bits.Statement.{statement}
 use Rattle.controller.proofs.are_bits.Tie as tie
 use Rattle.controller.proofs.are_bits.Reads as reads
@@ -16,31 +15,24 @@ Inv-loop ff i₀ i = (i ≤ length ff) × ((b : ℕ) → b < i → getD ff b 0 �
 abbrev μ-loop : tie.MeasureT-loop
 μ-loop ff i₀ i = length ff - i
 
--- src/lib.rt:137:5
 loop-holds : tie.Need-loop-holds Inv-loop μ-loop
 loop-holds c = (omega arith, λ b h. absurd (omega arith))
 
--- src/lib.rt:138:16
 shared-slice-read-if1 : tie.Need-shared-slice-read-if1 Inv-loop μ-loop
 shared-slice-read-if1 c = omega arith
 
--- src/lib.rt:139:13
 returns : tie.Need-returns Inv-loop μ-loop
 returns c = ((λ e. absurd (false≢true e)), (λ h. absurd (omega (arith, h (c .before .before .before .loop .i) (omega arith)))))
 
--- src/lib.rt:141:9
 add-i : tie.Need-add-i Inv-loop μ-loop
 add-i c = omega arith
 
--- src/lib.rt:137:5
 loop-less : tie.Need-loop-less Inv-loop μ-loop
 loop-less c = omega arith
 
--- src/lib.rt:137:5
 loop-again : tie.Need-loop-again Inv-loop μ-loop
 loop-again c = (omega arith, below-more _ _ (c .before .before .before .loop .inv .1) (omega arith))
 
--- src/lib.rt:133:1
 returns-2 : tie.Need-returns-2 Inv-loop μ-loop
 returns-2 c = ((λ e b h. c .before .loop .inv .1 b (omega arith)), (λ h. refl))
 

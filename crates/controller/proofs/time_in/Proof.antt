@@ -6,24 +6,19 @@ use Rattle.controller.proofs.time_in.Reads as reads
 use Rattle.controller.proofs.time_in.Lts as lts
 use Rattle.controller.proofs.time_after.Reads as time-after-reads
 
--- src/lib.rt:92:24
 enum-known-d : tie.Need-enum-known-d
 enum-known-d c = search needs
 
--- src/lib.rt:92:30
 time-after-requires : tie.Need-time-after-requires
 time-after-requires c κs = search needs
 
--- src/lib.rt:93:29
 enum-told : tie.Need-enum-told
 enum-told c = search needs
 
--- src/lib.rt:88:1
 returns : tie.Need-returns
 unfolding timeIn
 returns c = rw (c .before .before .d .given .1, c .time-after .ensures)
 
--- src/lib.rt:88:1
 returns-2 : tie.Need-returns-2
 unfolding timeIn
 returns-2 c = rw (c .enum-told .given .1)

@@ -1,6 +1,5 @@
 use Rattle.controller.specs.Sizes.{not-timed}
 use mathlib.Core.Path.{sym}
-use native.Mathlib.Omega.{arith}
 use borrow.Author.Needs.{needs}
 use Rattle.controller.proofs.time_of.Statement.{statement}
 use Rattle.controller.proofs.time_of.Tie as tie
@@ -9,19 +8,15 @@ use Rattle.controller.proofs.time_of.Lts as lts
 use Rattle.controller.proofs.time_in.Reads as time-in-reads
 use Rattle.decode.proofs.decode.Reads as decode-reads
 
--- src/lib.rt:131:9
 returns : tie.Need-returns
 returns c = sym (not-timed (c .before .args .t) (c .before .args .w) (c .if1 .taken))
 
--- src/lib.rt:133:16
 decode-requires : tie.Need-decode-requires
 decode-requires c κs = search needs
 
--- src/lib.rt:133:5
 time-in-requires : tie.Need-time-in-requires
 time-in-requires c κs = search needs
 
--- src/lib.rt:127:1
 returns-2 : tie.Need-returns-2
 returns-2 c = rw (← c .before .decode .ensures) (c .time-in .ensures)
 

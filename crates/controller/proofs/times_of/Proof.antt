@@ -20,43 +20,33 @@ Inv-loop words time₀ times₀ i₀ time times i =
 abbrev μ-loop : tie.MeasureT-loop
 μ-loop words time₀ times₀ i₀ time times i = length words - i
 
--- src/lib.rt:143:5
 loop-holds : tie.Need-loop-holds Inv-loop μ-loop
 loop-holds c = (omega arith, refl, refl)
 
--- src/lib.rt:144:17
 mul-w : tie.Need-mul-w Inv-loop μ-loop
 mul-w c = search needs
 
--- src/lib.rt:144:17
 shared-slice-read-w : tie.Need-shared-slice-read-w Inv-loop μ-loop
 shared-slice-read-w c = omega arith
 
--- src/lib.rt:145:9
 time-of-requires : tie.Need-time-of-requires Inv-loop μ-loop
 time-of-requires c κs = tt
 
--- src/lib.rt:146:13
 word-due-requires : tie.Need-word-due-requires Inv-loop μ-loop
 word-due-requires c κs = tt
 
--- src/lib.rt:148:13
 mul-times : tie.Need-mul-times Inv-loop μ-loop
 mul-times c = omega arith
 
--- src/lib.rt:148:13
 array-write-times : tie.Need-array-write-times Inv-loop μ-loop
 array-write-times c = omega arith
 
--- src/lib.rt:150:9
 add-i : tie.Need-add-i Inv-loop μ-loop
 add-i c = omega arith
 
--- src/lib.rt:143:5
 loop-less : tie.Need-loop-less Inv-loop μ-loop
 loop-less c = omega arith
 
--- src/lib.rt:143:5
 loop-again : tie.Need-loop-again Inv-loop μ-loop
 loop-again c =
     let l = c .before .before .before .before .before .loop in
@@ -78,7 +68,6 @@ loop-again c =
     ))
     (c .if1 .came)
 
--- src/lib.rt:137:1
 returns : tie.Need-returns Inv-loop μ-loop
 returns c =
     let l = c .before .loop in

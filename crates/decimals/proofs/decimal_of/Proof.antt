@@ -18,70 +18,54 @@ Inv-loop s low high n₀ i₀ n i = (n ≤ high) × Spelling s i n × (0 < i →
 abbrev μ-loop : tie.MeasureT-loop
 μ-loop s low high n₀ i₀ n i = length s - i
 
--- src/lib.rt:49:9
 returns : tie.Need-returns Inv-loop μ-loop
 returns c = λ m p q e. no-bytes (spelling-none (c .before .args .s .now)) (omega arith) (omega arith) m (omega arith) (rw append-nil at e)
 
--- src/lib.rt:52:12
 shared-slice-read-if3 : tie.Need-shared-slice-read-if3 Inv-loop μ-loop
 shared-slice-read-if3 c = omega arith
 
--- src/lib.rt:53:13
 returns-2 : tie.Need-returns-2 Inv-loop μ-loop
 returns-2 c = λ m p q e. zero-first (c .before .before .before .before .args .s .now) (omega arith) (c .if3 .taken) m (omega arith) (rw append-nil at e)
 
--- src/lib.rt:58:5
 loop-holds : tie.Need-loop-holds Inv-loop μ-loop
 loop-holds c = (omega arith, spelling-none _, λ h k. absurd (omega arith), ⊎-elim (λ w h e. omega arith) (λ w h e. omega arith) (c .if2 .came))
 
--- src/lib.rt:59:17
 shared-slice-read-b : tie.Need-shared-slice-read-b Inv-loop μ-loop
 shared-slice-read-b c = omega arith
 
--- src/lib.rt:61:13
 returns-3 : tie.Need-returns-3 Inv-loop μ-loop
 returns-3 c = λ m p q e. no-digit (c .before .before .before .loop .inv .1) (omega arith) (λ x y. omega arith) m (omega arith) (rw append-nil at e)
 
--- src/lib.rt:64:13
 returns-4 : tie.Need-returns-4 Inv-loop μ-loop
 returns-4 c = λ m p q e. no-digit (c .before .before .before .before .loop .inv .1) (omega arith) (λ x y. omega arith) m (omega arith) (rw append-nil at e)
 
--- src/lib.rt:66:13
 mul-n : tie.Need-mul-n Inv-loop μ-loop
 mul-n c = omega arith
 
--- src/lib.rt:66:22
 cast-n : tie.Need-cast-n Inv-loop μ-loop
 cast-n c = omega arith
 
--- src/lib.rt:66:13
 add-n : tie.Need-add-n Inv-loop μ-loop
 add-n c = omega arith
 
--- src/lib.rt:68:13
 returns-5 : tie.Need-returns-5 Inv-loop μ-loop
 returns-5 c = λ m p q e. too-large (spelling-more (c .before .before .before .before .before .loop .inv .1) (omega arith) (omega arith) (omega arith) (λ h. c .before .before .before .before .before .loop .inv .2 h (omega arith)) (omega arith)) m (omega arith) (omega arith) (rw append-nil at e)
 
--- src/lib.rt:70:9
 add-i : tie.Need-add-i Inv-loop μ-loop
 add-i c = omega arith
 
--- src/lib.rt:58:5
 loop-less : tie.Need-loop-less Inv-loop μ-loop
 loop-less c = omega arith
 
--- src/lib.rt:58:5
 loop-again : tie.Need-loop-again Inv-loop μ-loop
 loop-again c = (omega arith, rw add-one (spelling-more (c .before .before .before .before .before .loop .inv .1) (omega arith) (omega arith) (omega arith) (λ h. c .before .before .before .before .before .loop .inv .2 h (omega arith)) (omega arith)), λ h. digit-more (c .before .before .before .before .before .before .before .before .args .s .now) (c .before .before .before .before .before .loop .i) (c .before .before .before .before .before .loop .n) (c .before .before .before .before .before .loop .inv .2) (c .before .before .before .before .before .loop .inv .3) (omega arith), c .before .before .before .before .before .loop .inv .3)
 
--- src/lib.rt:73:9
 returns-6 : tie.Need-returns-6 Inv-loop μ-loop
 returns-6 c = λ m p q e. omega (arith, spelt-all (c .before .before .loop .inv .1) (omega arith) m (omega arith) (rw append-nil at e))
 
 cast-t19 : tie.Need-cast-t19 Inv-loop μ-loop
 cast-t19 c = omega arith
 
--- src/lib.rt:44:1
 returns-7 : tie.Need-returns-7 Inv-loop μ-loop
 returns-7 c = (omega arith, omega arith, rw append-nil (c .before .before .loop .inv .1 .front (omega arith) ∙ take-all (c .before .before .loop .i) (c .before .before .before .before .before .args .s .now) (omega arith)))
 

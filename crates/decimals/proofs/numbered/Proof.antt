@@ -15,76 +15,59 @@ use Rattle.decimals.proofs.numbered.Lts as lts
 use Rattle.decimals.proofs.decimal_of.Reads as decimal-of-reads
 use Rattle.decimals.proofs.same.Reads as same-reads
 
--- src/lib.rt:83:9
 returns : tie.Need-returns
 returns c = let a = c .before .before .before .before .args in
     λ n p q e. omega (arith, cut (a .head .now) (a .tail .now) (a .s .now) (decimal n) e .total)
 
--- src/lib.rt:86:8
 sub-if2 : tie.Need-sub-if2
 sub-if2 c = search needs
 
--- src/lib.rt:87:9
 returns-2 : tie.Need-returns-2
 returns-2 c = let a = c .before .before .before .before .before .args in
     λ n p q e. omega (arith, cut (a .head .now) (a .tail .now) (a .s .now) (decimal n) e .total)
 
--- src/lib.rt:89:14
 sub-to : tie.Need-sub-to
 sub-to c = search needs
 
--- src/lib.rt:90:14
 slice-aggregate-same : tie.Need-slice-aggregate-same
 slice-aggregate-same c = let b = c .before .before .before .before .before .before in
     sym (length-take-le (length (b .args .head .now)) (b .args .s .now) (omega arith))
 
--- src/lib.rt:90:9
 same-requires : tie.Need-same-requires
 same-requires c κs = search needs
 
--- src/lib.rt:91:9
 returns-3 : tie.Need-returns-3
 returns-3 c = let a = c .before .before .before .before .before .before .before .before .args in
     λ n p q e. false≢true (sym (not-true (c .before .same .result) (c .if3 .taken)) ∙ c .before .same .ensures .1 (cut (a .head .now) (a .tail .now) (a .s .now) (decimal n) e .front))
 
--- src/lib.rt:93:14
 sub-same : tie.Need-sub-same
 sub-same c = search needs
 
--- src/lib.rt:93:14
 part-same-start : tie.Need-part-same-start
 part-same-start c = search needs
 
--- src/lib.rt:93:14
 part-same-end : tie.Need-part-same-end
 part-same-end c = search needs
 
--- src/lib.rt:93:9
 same-requires-2 : tie.Need-same-requires-2
 same-requires-2 c κs = search needs
 
--- src/lib.rt:94:9
 returns-4 : tie.Need-returns-4
 returns-4 c = let a = c .before .before .before .before .before .before .before .before .before .before .before .args in
     λ n p q e. false≢true (sym (not-true (c .before .same2 .result) (c .if4 .taken)) ∙ c .before .same2 .ensures .1 (cut (a .head .now) (a .tail .now) (a .s .now) (decimal n) e .back ∙ sym (part-back (a .s .now) (length (a .s .now) - length (a .tail .now)))))
 
--- src/lib.rt:96:16
 sub-decimal-of : tie.Need-sub-decimal-of
 sub-decimal-of c = search needs
 
--- src/lib.rt:96:16
 part-decimal-of-start : tie.Need-part-decimal-of-start
 part-decimal-of-start c = search needs
 
--- src/lib.rt:96:16
 part-decimal-of-end : tie.Need-part-decimal-of-end
 part-decimal-of-end c = search needs
 
--- src/lib.rt:96:5
 decimal-of-requires : tie.Need-decimal-of-requires
 decimal-of-requires c κs = search needs
 
--- src/lib.rt:78:1
 returns-5 : tie.Need-returns-5
 returns-5 c = let a = c .before .before .before .before .before .before .before .before .before .before .before .before .before .args in
     let f = c .before .before .before .before .before .before .same .ensures .0 (not-false _ (c .before .before .before .before .before .if3 .left)) in

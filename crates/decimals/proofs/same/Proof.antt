@@ -16,39 +16,30 @@ Inv-loop s word i₀ i = (i ≤ length s) × ((k : ℕ) → k < i → getD word 
 abbrev μ-loop : tie.MeasureT-loop
 μ-loop s word i₀ i = length s - i
 
--- src/lib.rt:30:9
 returns : tie.Need-returns Inv-loop μ-loop
 returns c = (λ e. absurd (false≢true e), λ e. absurd (c .if1 .taken (sym (ap length e))))
 
--- src/lib.rt:33:5
 loop-holds : tie.Need-loop-holds Inv-loop μ-loop
 loop-holds c = (omega arith, λ k h. absurd (omega arith))
 
--- src/lib.rt:34:12
 shared-slice-read-if2 : tie.Need-shared-slice-read-if2 Inv-loop μ-loop
 shared-slice-read-if2 c = omega arith
 
--- src/lib.rt:34:20
 shared-slice-read-if2-2 : tie.Need-shared-slice-read-if2-2 Inv-loop μ-loop
 shared-slice-read-if2-2 c = omega arith
 
--- src/lib.rt:35:13
 returns-2 : tie.Need-returns-2 Inv-loop μ-loop
 returns-2 c = (λ e. absurd (false≢true e), λ e. absurd (c .if2 .taken (ap (λ l. getD l (c .before .before .before .before .loop .i) 0) (sym e))))
 
--- src/lib.rt:37:9
 add-i : tie.Need-add-i Inv-loop μ-loop
 add-i c = omega arith
 
--- src/lib.rt:33:5
 loop-less : tie.Need-loop-less Inv-loop μ-loop
 loop-less c = omega arith
 
--- src/lib.rt:33:5
 loop-again : tie.Need-loop-again Inv-loop μ-loop
 loop-again c = (omega arith, below-more _ _ (c .before .before .before .before .loop .inv .1) (sym (c .if2 .left)))
 
--- src/lib.rt:26:1
 returns-3 : tie.Need-returns-3 Inv-loop μ-loop
 returns-3 c = (λ e. ext-getD 0 _ _ (omega arith) (λ i h. c .before .loop .inv .1 i (omega arith)), λ e. refl)
 

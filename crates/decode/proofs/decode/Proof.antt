@@ -6,11 +6,9 @@ use Rattle.decode.proofs.decode.Reads as reads
 use Rattle.decode.proofs.decode.Lts as lts
 use Rattle.decode.proofs.unpack.Reads as unpack-reads
 
--- src/lib.rt:87:5
 unpack-requires : tie.Need-unpack-requires
 unpack-requires c κs = search needs
 
--- src/lib.rt:84:1
 returns : tie.Need-returns
 unfolding decoded
 returns c = c .unpack .ensures

@@ -6,24 +6,19 @@ use Rattle.due.proofs.block_due.Reads as reads
 use Rattle.due.proofs.block_due.Lts as lts
 use Rattle.due.proofs.called_by.Reads as called-by-reads
 
--- src/lib.rt:361:24
 enum-known-d : tie.Need-enum-known-d
 enum-known-d c = search needs
 
--- src/lib.rt:361:30
 called-by-requires : tie.Need-called-by-requires
 called-by-requires c κs = search needs
 
--- src/lib.rt:362:29
 enum-told : tie.Need-enum-told
 enum-told c = search needs
 
--- src/lib.rt:357:1
 returns : tie.Need-returns
 unfolding due
 returns c = rw (c .before .before .d .given .1, c .called-by .ensures)
 
--- src/lib.rt:357:1
 returns-2 : tie.Need-returns-2
 unfolding due
 returns-2 c = rw (c .enum-told .given .1)

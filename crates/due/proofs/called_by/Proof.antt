@@ -6,105 +6,82 @@ use Rattle.due.proofs.called_by.Reads as reads
 use Rattle.due.proofs.called_by.Lts as lts
 use Rattle.due.proofs.block_of.Reads as block-of-reads
 
--- src/lib.rt:342:28
 enum-told : tie.Need-enum-told
 enum-told c = search needs
 
--- src/lib.rt:343:29
 enum-told-2 : tie.Need-enum-told-2
 enum-told-2 c = search needs
 
--- src/lib.rt:344:29
 enum-told-3 : tie.Need-enum-told-3
 enum-told-3 c = search needs
 
--- src/lib.rt:345:30
 enum-told-4 : tie.Need-enum-told-4
 enum-told-4 c = search needs
 
--- src/lib.rt:346:25
 enum-told-5 : tie.Need-enum-told-5
 enum-told-5 c = search needs
 
--- src/lib.rt:347:28
 enum-told-6 : tie.Need-enum-told-6
 enum-told-6 c = search needs
 
--- src/lib.rt:348:28
 enum-told-7 : tie.Need-enum-told-7
 enum-told-7 c = search needs
 
--- src/lib.rt:349:27
 enum-told-8 : tie.Need-enum-told-8
 enum-told-8 c = search needs
 
--- src/lib.rt:350:27
 enum-told-9 : tie.Need-enum-told-9
 enum-told-9 c = search needs
 
--- src/lib.rt:351:23
 enum-known-i : tie.Need-enum-known-i
 enum-known-i c = search needs
 
--- src/lib.rt:351:29
 block-of-requires : tie.Need-block-of-requires
 block-of-requires c κs = search needs
 
--- src/lib.rt:352:32
 enum-told-10 : tie.Need-enum-told-10
 enum-told-10 c = search needs
 
--- src/lib.rt:338:1
 returns : tie.Need-returns
 unfolding calledBy
 returns c = rw (c .enum-told .given .1)
 
--- src/lib.rt:338:1
 returns-2 : tie.Need-returns-2
 unfolding calledBy
 returns-2 c = rw (c .enum-told2 .given .1)
 
--- src/lib.rt:338:1
 returns-3 : tie.Need-returns-3
 unfolding calledBy
 returns-3 c = rw (c .enum-told3 .given .1)
 
--- src/lib.rt:338:1
 returns-4 : tie.Need-returns-4
 unfolding calledBy
 returns-4 c = rw (c .enum-told4 .given .1)
 
--- src/lib.rt:338:1
 returns-5 : tie.Need-returns-5
 unfolding calledBy
 returns-5 c = rw (c .enum-told5 .given .1)
 
--- src/lib.rt:338:1
 returns-6 : tie.Need-returns-6
 unfolding calledBy
 returns-6 c = rw (c .enum-told6 .given .1)
 
--- src/lib.rt:338:1
 returns-7 : tie.Need-returns-7
 unfolding calledBy
 returns-7 c = rw (c .enum-told7 .given .1)
 
--- src/lib.rt:338:1
 returns-8 : tie.Need-returns-8
 unfolding calledBy
 returns-8 c = rw (c .enum-told8 .given .1)
 
--- src/lib.rt:338:1
 returns-9 : tie.Need-returns-9
 unfolding calledBy
 returns-9 c = rw (c .enum-told9 .given .1)
 
--- src/lib.rt:338:1
 returns-10 : tie.Need-returns-10
 unfolding calledBy
 returns-10 c = rw (c .before .before .i .given .1, c .block-of .ensures)
 
--- src/lib.rt:338:1
 returns-11 : tie.Need-returns-11
 unfolding calledBy
 returns-11 c = rw (c .enum-told10 .given .1)

@@ -6,15 +6,12 @@ use Rattle.due.proofs.word_due.Lts as lts
 use Rattle.decode.proofs.decode.Reads as decode-reads
 use Rattle.due.proofs.block_due.Reads as block-due-reads
 
--- src/lib.rt:369:22
 decode-requires : tie.Need-decode-requires
 decode-requires c κs = search needs
 
--- src/lib.rt:369:5
 block-due-requires : tie.Need-block-due-requires
 block-due-requires c κs = search needs
 
--- src/lib.rt:366:1
 returns : tie.Need-returns
 returns c = rw (← c .before .decode .ensures) (c .block-due .ensures)
 

@@ -1,13 +1,13 @@
 use borrow.Author.Needs.{needs}
 use Rattle.ended.proofs.signed.Statement.{statement}
 use Rattle.ended.proofs.signed.Tie as tie
-use mathlib.Core.Path.{_≡_, sym, _∙_, ap}
-use Prim.Native.Nat.{_<_, _-_}
+use mathlib.Core.Path.{_∙_}
+use Prim.Native.Nat.{_-_}
 use native.Mathlib.Omega.{arith}
-use lib.IntN.{ℤ, pos, negsuc, _-ℤ_}
+use lib.IntN.{negsuc}
 use borrow.Author.Tests.{lt-ltb, le-ltb}
 use mir.Syntax.{w16}
-use mir.Val.{SFits, toZ, ofZ}
+use mir.Val.{SFits}
 use mir.Facts.{toZ-pos, toZ-ofZ}
 use Rattle.ended.specs.Decimals.{signedOf}
 use Rattle.ended.specs.DecimalLaws.{minus-one}

@@ -3,9 +3,7 @@ use Rattle.field.proofs.grow.Statement.{statement}
 use Rattle.field.proofs.grow.Tie as tie
 use native.Mathlib.Omega.{arith}
 use Rattle.field.specs.FieldLaws.{grown-low, grown-high, grown-past, grown-digit}
-use mathlib.Core.Path.{sym, _∙_, ap}
-use Prim.Native.Nat.{ℕ, _+_, _*_}
-use Rattle.field.specs.declared.Phase.the-variants.{Number}
+use mathlib.Core.Path.{sym}
 
 returns : tie.Need-returns
 returns c = sym (grown-low _ _ _ _ _ (c .if1 .taken))

@@ -2,7 +2,7 @@ use borrow.Author.Needs.{needs}
 use Rattle.field.proofs.within.Statement.{statement}
 use Rattle.field.proofs.within.Tie as tie
 use Rattle.field.specs.Field.{phaseAfter}
-use mathlib.Core.Path.{_≡_, sym, _∙_}
+use mathlib.Core.Path.{_≡_}
 use mathlib.Core.Bool.{true}
 use lib.Dec.{eqb}
 use borrow.Author.Tests.{eq-eqb, ne-eqb}

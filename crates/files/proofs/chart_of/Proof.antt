@@ -5,31 +5,24 @@ use Rattle.files.proofs.chart_of.Reads as reads
 use Rattle.files.proofs.chart_of.Lts as lts
 use Rattle.columns.proofs.low_32.Reads as low-32-reads
 
--- src/lib.rt:200:32
 element-copy-out-low-32 : tie.Need-element-copy-out-low-32
 element-copy-out-low-32 c = search needs
 
--- src/lib.rt:200:9
 low-32-requires : tie.Need-low-32-requires
 low-32-requires c κs = search needs
 
--- src/lib.rt:201:34
 element-copy-out-low-32-2 : tie.Need-element-copy-out-low-32-2
 element-copy-out-low-32-2 c = search needs
 
--- src/lib.rt:201:9
 low-32-requires-2 : tie.Need-low-32-requires-2
 low-32-requires-2 c κs = search needs
 
--- src/lib.rt:202:35
 element-copy-out-low-32-3 : tie.Need-element-copy-out-low-32-3
 element-copy-out-low-32-3 c = search needs
 
--- src/lib.rt:202:9
 low-32-requires-3 : tie.Need-low-32-requires-3
 low-32-requires-3 c κs = search needs
 
--- src/lib.rt:197:1
 returns : tie.Need-returns
 returns c = λ i. record { step = c .before .before .before .before .low-32 .ensures i; inputs = c .before .before .low-322 .ensures i; outputs = c .low-323 .ensures i }
 

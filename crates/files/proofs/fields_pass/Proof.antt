@@ -8,35 +8,27 @@ use Rattle.files.proofs.fields_pass.Reads as reads
 use Rattle.files.proofs.fields_pass.Lts as lts
 use Rattle.files.proofs.then.Reads as then-reads
 
--- src/lib.rt:63:9
 then-requires : tie.Need-then-requires
 then-requires c κs = search needs
 
--- src/lib.rt:64:31
 then-requires-2 : tie.Need-then-requires-2
 then-requires-2 c κs = search needs
 
--- src/lib.rt:64:9
 then-requires-3 : tie.Need-then-requires-3
 then-requires-3 c κs = search needs
 
--- src/lib.rt:65:42
 then-requires-4 : tie.Need-then-requires-4
 then-requires-4 c κs = search needs
 
--- src/lib.rt:65:30
 then-requires-5 : tie.Need-then-requires-5
 then-requires-5 c κs = search needs
 
--- src/lib.rt:65:17
 then-requires-6 : tie.Need-then-requires-6
 then-requires-6 c κs = search needs
 
--- src/lib.rt:65:5
 then-requires-7 : tie.Need-then-requires-7
 then-requires-7 c κs = search needs
 
--- src/lib.rt:53:1
 returns : tie.Need-returns
 returns c =
     let a = c .before .before .before .before .before .before .before .args .a in

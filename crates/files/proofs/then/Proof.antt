@@ -7,19 +7,15 @@ use Rattle.files.proofs.then.Tie as tie
 use Rattle.files.proofs.then.Reads as reads
 use Rattle.files.proofs.then.Lts as lts
 
--- src/lib.rt:47:28
 enum-told : tie.Need-enum-told
 enum-told c = search needs
 
--- src/lib.rt:48:25
 enum-known-a : tie.Need-enum-known-a
 enum-known-a c = search needs
 
--- src/lib.rt:43:1
 returns : tie.Need-returns
 returns c = search needs
 
--- src/lib.rt:43:1
 returns-2 : tie.Need-returns-2
 returns-2 c = sym (ap (λ (x : Answer). later x (c .before .before .before .args .v)) (c .before .a .given .1))
 

@@ -11,33 +11,26 @@ use Rattle.phase.proofs.is_at.Reads as is-at-reads
 use Rattle.following.proofs.is_next.Reads as is-next-reads
 use Rattle.phase.proofs.to.Reads as to-reads
 
--- src/lib.rt:222:8
 is-at-requires : tie.Need-is-at-requires
 is-at-requires c κs = search needs
 
--- src/lib.rt:223:12
 is-next-requires : tie.Need-is-next-requires
 is-next-requires c κs = search needs
 
--- src/lib.rt:224:13
 returns : tie.Need-returns
 unfolding call
 returns c = let e : c .before .before .before .before .args .n ≡ suc (c .before .before .before .before .args .s .timers) = eqb-true _ _ (sym (c .before .is-next .ensures) ∙ c .if2 .taken) in rw (← c .before .before .before .is-at .ensures, c .before .before .if1 .taken, ← c .before .is-next .ensures, c .if2 .taken, e)
 
--- src/lib.rt:231:9
 to-requires : tie.Need-to-requires
 to-requires c κs = search needs
 
--- src/lib.rt:231:9
 returns-2 : tie.Need-returns-2
 unfolding call
 returns-2 c = rw (← c .before .before .before .before .is-at .ensures, c .before .before .before .if1 .taken, ← c .before .before .is-next .ensures, c .before .if2 .left) (c .to .ensures)
 
--- src/lib.rt:233:5
 to-requires-2 : tie.Need-to-requires-2
 to-requires-2 c κs = search needs
 
--- src/lib.rt:219:1
 returns-3 : tie.Need-returns-3
 unfolding call
 returns-3 c = rw (← c .before .before .is-at .ensures, c .before .if1 .left) (c .to2 .ensures)

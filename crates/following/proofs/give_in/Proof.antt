@@ -10,46 +10,36 @@ use Rattle.phase.proofs.is_at.Reads as is-at-reads
 use Rattle.following.proofs.is_next.Reads as is-next-reads
 use Rattle.phase.proofs.to.Reads as to-reads
 
--- src/lib.rt:187:9
 to-requires : tie.Need-to-requires
 to-requires c κs = search needs
 
--- src/lib.rt:187:9
 returns : tie.Need-returns
 unfolding giveIn
 returns c = rw (lt-leb (c .before .before .before .args .n) (c .before .before .before .args .s .most) (c .before .if1 .taken), and-false) (c .to .ensures)
 
--- src/lib.rt:189:8
 is-at-requires : tie.Need-is-at-requires
 is-at-requires c κs = search needs
 
--- src/lib.rt:190:12
 is-next-requires : tie.Need-is-next-requires
 is-next-requires c κs = search needs
 
--- src/lib.rt:191:13
 to-requires-2 : tie.Need-to-requires-2
 to-requires-2 c κs = search needs
 
--- src/lib.rt:191:13
 returns-2 : tie.Need-returns-2
 unfolding giveIn
 returns-2 c = rw (← c .before .before .before .before .is-at .ensures, c .before .before .before .if2 .taken, ← c .before .before .is-next .ensures, c .before .if3 .taken, le-leb (c .before .before .before .before .before .before .before .args .n) (c .before .before .before .before .before .before .before .args .s .most) (c .before .before .before .before .before .if1 .left)) (c .to2 .ensures)
 
--- src/lib.rt:193:9
 to-requires-3 : tie.Need-to-requires-3
 to-requires-3 c κs = search needs
 
--- src/lib.rt:193:9
 returns-3 : tie.Need-returns-3
 unfolding giveIn
 returns-3 c = rw (← c .before .before .before .before .is-at .ensures, c .before .before .before .if2 .taken, ← c .before .before .is-next .ensures, c .before .if3 .left) (c .to3 .ensures)
 
--- src/lib.rt:195:5
 to-requires-4 : tie.Need-to-requires-4
 to-requires-4 c κs = search needs
 
--- src/lib.rt:183:1
 returns-4 : tie.Need-returns-4
 unfolding giveIn
 returns-4 c = rw (← c .before .before .is-at .ensures, c .before .if2 .left) (c .to4 .ensures)

@@ -8,37 +8,29 @@ use Rattle.phase.proofs.is_at.Reads as is-at-reads
 use Rattle.following.proofs.is_next.Reads as is-next-reads
 use Rattle.phase.proofs.to.Reads as to-reads
 
--- src/lib.rt:209:8
 is-at-requires : tie.Need-is-at-requires
 is-at-requires c κs = search needs
 
--- src/lib.rt:210:12
 is-next-requires : tie.Need-is-next-requires
 is-next-requires c κs = search needs
 
--- src/lib.rt:211:13
 to-requires : tie.Need-to-requires
 to-requires c κs = search needs
 
--- src/lib.rt:211:13
 returns : tie.Need-returns
 unfolding givePt
 returns c = rw (← c .before .before .before .before .is-at .ensures, c .before .before .before .if1 .taken, ← c .before .before .is-next .ensures, c .before .if2 .taken) (c .to .ensures)
 
--- src/lib.rt:213:9
 to-requires-2 : tie.Need-to-requires-2
 to-requires-2 c κs = search needs
 
--- src/lib.rt:213:9
 returns-2 : tie.Need-returns-2
 unfolding givePt
 returns-2 c = rw (← c .before .before .before .before .is-at .ensures, c .before .before .before .if1 .taken, ← c .before .before .is-next .ensures, c .before .if2 .left) (c .to2 .ensures)
 
--- src/lib.rt:215:5
 to-requires-3 : tie.Need-to-requires-3
 to-requires-3 c κs = search needs
 
--- src/lib.rt:206:1
 returns-3 : tie.Need-returns-3
 unfolding givePt
 returns-3 c = rw (← c .before .before .is-at .ensures, c .before .if1 .left) (c .to3 .ensures)

@@ -17,15 +17,12 @@ pred-eqb n t h = elim (which (eqb n (suc t))) [
   | inr e ↦ ne-eqb (n - 1) t (λ d. eqb-false n (suc t) e (omega arith)) ∙ sym e
 ]
 
--- src/lib.rt:96:9
 returns : tie.Need-returns
 returns c = sym (ne-eqb (c .before .args .n) (suc (c .before .args .s .timers)) (λ e. omega arith))
 
--- src/lib.rt:98:5
 sub-result : tie.Need-sub-result
 sub-result c = search needs
 
--- src/lib.rt:92:1
 returns-2 : tie.Need-returns-2
 returns-2 c = pred-eqb _ _ (c .before .if1 .left)
 

@@ -8,127 +8,98 @@ use Rattle.following.proofs.give_in.Reads as give-in-reads
 use Rattle.following.proofs.give_pt.Reads as give-pt-reads
 use Rattle.phase.proofs.store.Reads as store-reads
 
--- src/lib.rt:241:27
 enum-told : tie.Need-enum-told
 enum-told c = search needs
 
--- src/lib.rt:241:27
 store-requires : tie.Need-store-requires
 store-requires c κs = search needs
 
--- src/lib.rt:242:27
 enum-told-2 : tie.Need-enum-told-2
 enum-told-2 c = search needs
 
--- src/lib.rt:242:27
 store-requires-2 : tie.Need-store-requires-2
 store-requires-2 c κs = search needs
 
--- src/lib.rt:243:27
 enum-told-3 : tie.Need-enum-told-3
 enum-told-3 c = search needs
 
--- src/lib.rt:243:27
 store-requires-3 : tie.Need-store-requires-3
 store-requires-3 c κs = search needs
 
--- src/lib.rt:244:31
 enum-told-4 : tie.Need-enum-told-4
 enum-told-4 c = search needs
 
--- src/lib.rt:244:31
 store-requires-4 : tie.Need-store-requires-4
 store-requires-4 c κs = search needs
 
--- src/lib.rt:245:26
 enum-known-o : tie.Need-enum-known-o
 enum-known-o c = search needs
 
--- src/lib.rt:245:40
 cast-give-in : tie.Need-cast-give-in
 cast-give-in c = search needs
 
--- src/lib.rt:245:32
 give-in-requires : tie.Need-give-in-requires
 give-in-requires c κs = search needs
 
--- src/lib.rt:246:26
 enum-known-o-2 : tie.Need-enum-known-o-2
 enum-known-o-2 c = search needs
 
--- src/lib.rt:246:40
 cast-give-pt : tie.Need-cast-give-pt
 cast-give-pt c = search needs
 
--- src/lib.rt:246:32
 give-pt-requires : tie.Need-give-pt-requires
 give-pt-requires c κs = search needs
 
--- src/lib.rt:247:30
 enum-told-5 : tie.Need-enum-told-5
 enum-told-5 c = search needs
 
--- src/lib.rt:247:30
 store-requires-5 : tie.Need-store-requires-5
 store-requires-5 c κs = search needs
 
--- src/lib.rt:248:27
 enum-told-6 : tie.Need-enum-told-6
 enum-told-6 c = search needs
 
--- src/lib.rt:248:27
 store-requires-6 : tie.Need-store-requires-6
 store-requires-6 c κs = search needs
 
--- src/lib.rt:249:26
 enum-told-7 : tie.Need-enum-told-7
 enum-told-7 c = search needs
 
--- src/lib.rt:249:26
 store-requires-7 : tie.Need-store-requires-7
 store-requires-7 c κs = search needs
 
--- src/lib.rt:237:1
 returns : tie.Need-returns
 unfolding put
 returns c = rw (c .before .enum-told .given .1) (c .store .ensures)
 
--- src/lib.rt:237:1
 returns-2 : tie.Need-returns-2
 unfolding put
 returns-2 c = rw (c .before .enum-told2 .given .1) (c .store2 .ensures)
 
--- src/lib.rt:237:1
 returns-3 : tie.Need-returns-3
 unfolding put
 returns-3 c = rw (c .before .enum-told3 .given .1) (c .store3 .ensures)
 
--- src/lib.rt:237:1
 returns-4 : tie.Need-returns-4
 unfolding put
 returns-4 c = rw (c .before .enum-told4 .given .1) (c .store4 .ensures)
 
--- src/lib.rt:237:1
 returns-5 : tie.Need-returns-5
 unfolding put
 returns-5 c = rw (c .before .before .o .given .1) (c .give-in .ensures)
 
--- src/lib.rt:237:1
 returns-6 : tie.Need-returns-6
 unfolding put
 returns-6 c = rw (c .before .before .o2 .given .1) (c .give-pt .ensures)
 
--- src/lib.rt:237:1
 returns-7 : tie.Need-returns-7
 unfolding put
 returns-7 c = rw (c .before .enum-told5 .given .1) (c .store5 .ensures)
 
--- src/lib.rt:237:1
 returns-8 : tie.Need-returns-8
 unfolding put
 returns-8 c = rw (c .before .enum-told6 .given .1) (c .store6 .ensures)
 
--- src/lib.rt:237:1
 returns-9 : tie.Need-returns-9
 unfolding put
 returns-9 c = rw (c .before .enum-told7 .given .1) (c .store7 .ensures)

@@ -14,165 +14,127 @@ use Rattle.phase.proofs.opened.Reads as opened-reads
 use Rattle.following.proofs.put.Reads as put-reads
 use Rattle.phase.proofs.store.Reads as store-reads
 
--- src/lib.rt:258:22
 enum-known-i : tie.Need-enum-known-i
 enum-known-i c = search needs
 
--- src/lib.rt:258:33
 block-requires : tie.Need-block-requires
 block-requires c κs = search needs
 
--- src/lib.rt:258:28
 load-requires : tie.Need-load-requires
 load-requires c κs = search needs
 
--- src/lib.rt:259:23
 enum-known-i-2 : tie.Need-enum-known-i-2
 enum-known-i-2 c = search needs
 
--- src/lib.rt:259:34
 block-requires-2 : tie.Need-block-requires-2
 block-requires-2 c κs = search needs
 
--- src/lib.rt:259:29
 load-requires-2 : tie.Need-load-requires-2
 load-requires-2 c κs = search needs
 
--- src/lib.rt:260:23
 enum-known-i-3 : tie.Need-enum-known-i-3
 enum-known-i-3 c = search needs
 
--- src/lib.rt:260:34
 block-requires-3 : tie.Need-block-requires-3
 block-requires-3 c κs = search needs
 
--- src/lib.rt:260:29
 also-requires : tie.Need-also-requires
 also-requires c κs = search needs
 
--- src/lib.rt:261:24
 enum-known-i-4 : tie.Need-enum-known-i-4
 enum-known-i-4 c = search needs
 
--- src/lib.rt:261:35
 block-requires-4 : tie.Need-block-requires-4
 block-requires-4 c κs = search needs
 
--- src/lib.rt:261:30
 also-requires-2 : tie.Need-also-requires-2
 also-requires-2 c κs = search needs
 
--- src/lib.rt:262:25
 enum-told : tie.Need-enum-told
 enum-told c = search needs
 
--- src/lib.rt:262:25
 opened-requires : tie.Need-opened-requires
 opened-requires c κs = search needs
 
--- src/lib.rt:263:28
 enum-told-2 : tie.Need-enum-told-2
 enum-told-2 c = search needs
 
--- src/lib.rt:263:28
 closed-requires : tie.Need-closed-requires
 closed-requires c κs = search needs
 
--- src/lib.rt:264:22
 enum-known-i-5 : tie.Need-enum-known-i-5
 enum-known-i-5 c = search needs
 
--- src/lib.rt:264:28
 put-requires : tie.Need-put-requires
 put-requires c κs = search needs
 
--- src/lib.rt:265:27
 enum-told-3 : tie.Need-enum-told-3
 enum-told-3 c = search needs
 
--- src/lib.rt:265:27
 store-requires : tie.Need-store-requires
 store-requires c κs = search needs
 
--- src/lib.rt:266:27
 enum-told-4 : tie.Need-enum-told-4
 enum-told-4 c = search needs
 
--- src/lib.rt:266:27
 store-requires-2 : tie.Need-store-requires-2
 store-requires-2 c κs = search needs
 
--- src/lib.rt:267:23
 enum-known-i-6 : tie.Need-enum-known-i-6
 enum-known-i-6 c = search needs
 
--- src/lib.rt:267:34
 block-requires-5 : tie.Need-block-requires-5
 block-requires-5 c κs = search needs
 
--- src/lib.rt:267:29
 call-requires : tie.Need-call-requires
 call-requires c κs = search needs
 
--- src/lib.rt:268:32
 enum-told-5 : tie.Need-enum-told-5
 enum-told-5 c = search needs
 
--- src/lib.rt:268:32
 give-time-requires : tie.Need-give-time-requires
 give-time-requires c κs = search needs
 
--- src/lib.rt:254:1
 returns : tie.Need-returns
 unfolding step
 returns c = rw (c .before .before .before .i .given .1, ← c .before .block .ensures) (c .load .ensures)
 
--- src/lib.rt:254:1
 returns-2 : tie.Need-returns-2
 unfolding step
 returns-2 c = rw (c .before .before .before .i2 .given .1, ← c .before .block2 .ensures) (c .load2 .ensures)
 
--- src/lib.rt:254:1
 returns-3 : tie.Need-returns-3
 unfolding step
 returns-3 c = rw (c .before .before .before .i3 .given .1, ← c .before .block3 .ensures) (c .also .ensures)
 
--- src/lib.rt:254:1
 returns-4 : tie.Need-returns-4
 unfolding step
 returns-4 c = rw (c .before .before .before .i4 .given .1, ← c .before .block4 .ensures) (c .also2 .ensures)
 
--- src/lib.rt:254:1
 returns-5 : tie.Need-returns-5
 unfolding step
 returns-5 c = rw (c .before .enum-told .given .1) (c .opened .ensures)
 
--- src/lib.rt:254:1
 returns-6 : tie.Need-returns-6
 unfolding step
 returns-6 c = rw (c .before .enum-told2 .given .1) (c .closed .ensures)
 
--- src/lib.rt:254:1
 returns-7 : tie.Need-returns-7
 unfolding step
 returns-7 c = rw (c .before .before .i5 .given .1) (c .put .ensures)
 
--- src/lib.rt:254:1
 returns-8 : tie.Need-returns-8
 unfolding step
 returns-8 c = rw (c .before .enum-told3 .given .1) (c .store .ensures)
 
--- src/lib.rt:254:1
 returns-9 : tie.Need-returns-9
 unfolding step
 returns-9 c = rw (c .before .enum-told4 .given .1) (c .store2 .ensures)
 
--- src/lib.rt:254:1
 returns-10 : tie.Need-returns-10
 unfolding step
 returns-10 c = rw (c .before .before .before .i6 .given .1, ← c .before .block5 .ensures) (c .call .ensures)
 
--- src/lib.rt:254:1
 returns-11 : tie.Need-returns-11
 unfolding step
 returns-11 c = rw (c .before .enum-told5 .given .1) (c .give-time .ensures)

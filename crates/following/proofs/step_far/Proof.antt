@@ -13,71 +13,54 @@ use Rattle.phase.proofs.also.Reads as also-reads
 use Rattle.phase.proofs.load.Reads as load-reads
 use Rattle.following.proofs.step_word.Reads as step-word-reads
 
--- src/lib.rt:321:29
 decode-requires : tie.Need-decode-requires
 decode-requires c κs = search needs
 
--- src/lib.rt:321:9
 step-word-requires : tie.Need-step-word-requires
 step-word-requires c κs = search needs
 
--- src/lib.rt:321:9
 returns : tie.Need-returns
 returns c = c .step-word .ensures ∙ ap (stepWord (c .before .before .before .args .s)) (c .before .decode .ensures)
 
--- src/lib.rt:324:29
 decode-requires-2 : tie.Need-decode-requires-2
 decode-requires-2 c κs = search needs
 
--- src/lib.rt:324:9
 step-word-requires-2 : tie.Need-step-word-requires-2
 step-word-requires-2 c κs = search needs
 
--- src/lib.rt:324:9
 returns-2 : tie.Need-returns-2
 returns-2 c = c .step-word2 .ensures ∙ ap (stepWord (c .before .before .before .before .args .s)) (c .before .decode2 .ensures)
 
--- src/lib.rt:328:14
 load-requires : tie.Need-load-requires
 load-requires c κs = search needs
 
--- src/lib.rt:329:14
 load-requires-2 : tie.Need-load-requires-2
 load-requires-2 c κs = search needs
 
--- src/lib.rt:330:14
 also-requires : tie.Need-also-requires
 also-requires c κs = search needs
 
--- src/lib.rt:331:14
 also-requires-2 : tie.Need-also-requires-2
 also-requires-2 c κs = search needs
 
--- src/lib.rt:332:27
 decode-requires-3 : tie.Need-decode-requires-3
 decode-requires-3 c κs = search needs
 
--- src/lib.rt:332:14
 step-word-requires-3 : tie.Need-step-word-requires-3
 step-word-requires-3 c κs = search needs
 
--- src/lib.rt:316:1
 returns-3 : tie.Need-returns-3
 returns-3 c = c .load .ensures ∙ by-number (c .before .before .before .before .args .s) (c .before .before .before .before .args .w) 1 (load 0 (c .before .before .before .before .args .s)) (c .before .match .keys1) (ix-tests (c .before .before .before .before .args .s) (c .before .before .before .before .args .w % 134217728) (omega arith) (omega arith) .ld)
 
--- src/lib.rt:316:1
 returns-4 : tie.Need-returns-4
 returns-4 c = c .load2 .ensures ∙ by-number (c .before .before .before .before .args .s) (c .before .before .before .before .args .w) 2 (load 0 (c .before .before .before .before .args .s)) (c .before .match .keys2) (ix-tests (c .before .before .before .before .args .s) (c .before .before .before .before .args .w % 134217728) (omega arith) (omega arith) .ldn)
 
--- src/lib.rt:316:1
 returns-5 : tie.Need-returns-5
 returns-5 c = c .also .ensures ∙ by-number (c .before .before .before .before .args .s) (c .before .before .before .before .args .w) 3 (also 0 (c .before .before .before .before .args .s)) (c .before .match .keys3) (ix-tests (c .before .before .before .before .args .s) (c .before .before .before .before .args .w % 134217728) (omega arith) (omega arith) .and)
 
--- src/lib.rt:316:1
 returns-6 : tie.Need-returns-6
 returns-6 c = c .also2 .ensures ∙ by-number (c .before .before .before .before .args .s) (c .before .before .before .before .args .w) 4 (also 0 (c .before .before .before .before .args .s)) (c .before .match .keys4) (ix-tests (c .before .before .before .before .args .s) (c .before .before .before .before .args .w % 134217728) (omega arith) (omega arith) .andn)
 
--- src/lib.rt:316:1
 returns-7 : tie.Need-returns-7
 returns-7 c = c .step-word3 .ensures ∙ ap (stepWord (c .before .before .before .before .before .args .s)) (c .before .decode3 .ensures)
 

@@ -15,79 +15,60 @@ use Rattle.following.proofs.step_far.Reads as step-far-reads
 use Rattle.following.proofs.step_word.Reads as step-word-reads
 use Rattle.phase.proofs.store.Reads as store-reads
 
--- src/lib.rt:342:9
 step-far-requires : tie.Need-step-far-requires
 step-far-requires c κs = search needs
 
--- src/lib.rt:342:9
 returns : tie.Need-returns
 returns c = search needs
 
--- src/lib.rt:346:14
 load-requires : tie.Need-load-requires
 load-requires c κs = search needs
 
--- src/lib.rt:347:14
 load-requires-2 : tie.Need-load-requires-2
 load-requires-2 c κs = search needs
 
--- src/lib.rt:348:14
 also-requires : tie.Need-also-requires
 also-requires c κs = search needs
 
--- src/lib.rt:349:14
 also-requires-2 : tie.Need-also-requires-2
 also-requires-2 c κs = search needs
 
--- src/lib.rt:350:14
 store-requires : tie.Need-store-requires
 store-requires c κs = search needs
 
--- src/lib.rt:351:14
 store-requires-2 : tie.Need-store-requires-2
 store-requires-2 c κs = search needs
 
--- src/lib.rt:352:14
 store-requires-3 : tie.Need-store-requires-3
 store-requires-3 c κs = search needs
 
--- src/lib.rt:353:27
 decode-requires : tie.Need-decode-requires
 decode-requires c κs = search needs
 
--- src/lib.rt:353:14
 step-word-requires : tie.Need-step-word-requires
 step-word-requires c κs = search needs
 
--- src/lib.rt:337:1
 returns-2 : tie.Need-returns-2
 returns-2 c = c .load .ensures ∙ by-number (c .before .before .before .args .s) (c .before .before .before .args .w) 1 (load 0 (c .before .before .before .args .s)) (c .before .match .keys1) (mx-tests (c .before .before .before .args .s) (c .before .before .before .args .w % 134217728) (omega arith) .ld)
 
--- src/lib.rt:337:1
 returns-3 : tie.Need-returns-3
 returns-3 c = c .load2 .ensures ∙ by-number (c .before .before .before .args .s) (c .before .before .before .args .w) 2 (load 0 (c .before .before .before .args .s)) (c .before .match .keys2) (mx-tests (c .before .before .before .args .s) (c .before .before .before .args .w % 134217728) (omega arith) .ldn)
 
--- src/lib.rt:337:1
 returns-4 : tie.Need-returns-4
 returns-4 c = c .also .ensures ∙ by-number (c .before .before .before .args .s) (c .before .before .before .args .w) 3 (also 0 (c .before .before .before .args .s)) (c .before .match .keys3) (mx-tests (c .before .before .before .args .s) (c .before .before .before .args .w % 134217728) (omega arith) .and)
 
--- src/lib.rt:337:1
 returns-5 : tie.Need-returns-5
 returns-5 c = c .also2 .ensures ∙ by-number (c .before .before .before .args .s) (c .before .before .before .args .w) 4 (also 0 (c .before .before .before .args .s)) (c .before .match .keys4) (mx-tests (c .before .before .before .args .s) (c .before .before .before .args .w % 134217728) (omega arith) .andn)
 
--- src/lib.rt:337:1
 returns-6 : tie.Need-returns-6
 returns-6 c = c .store .ensures ∙ by-number (c .before .before .before .args .s) (c .before .before .before .args .w) 7 (store (c .before .before .before .args .s)) (c .before .match .keys5) (mx-stored (c .before .before .before .args .s) (c .before .before .before .args .w % 134217728) (omega arith) .st)
 
--- src/lib.rt:337:1
 returns-7 : tie.Need-returns-7
 returns-7 c = c .store2 .ensures ∙ by-number (c .before .before .before .args .s) (c .before .before .before .args .w) 8 (store (c .before .before .before .args .s)) (c .before .match .keys6) (mx-stored (c .before .before .before .args .s) (c .before .before .before .args .w % 134217728) (omega arith) .set)
 
--- src/lib.rt:337:1
 returns-8 : tie.Need-returns-8
 returns-8 c = c .store3 .ensures ∙ by-number (c .before .before .before .args .s) (c .before .before .before .args .w) 9 (store (c .before .before .before .args .s)) (c .before .match .keys7) (mx-stored (c .before .before .before .args .s) (c .before .before .before .args .w % 134217728) (omega arith) .reset)
 
--- src/lib.rt:337:1
 returns-9 : tie.Need-returns-9
 returns-9 c = c .step-word .ensures ∙ ap (stepWord (c .before .before .before .before .args .s)) (c .before .decode .ensures)
 

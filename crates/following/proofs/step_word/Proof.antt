@@ -7,28 +7,22 @@ use Rattle.following.proofs.step_word.Lts as lts
 use Rattle.following.proofs.step.Reads as step-reads
 use Rattle.phase.proofs.to.Reads as to-reads
 
--- src/lib.rt:309:24
 enum-known-d : tie.Need-enum-known-d
 enum-known-d c = search needs
 
--- src/lib.rt:309:30
 step-requires : tie.Need-step-requires
 step-requires c κs = search needs
 
--- src/lib.rt:310:32
 enum-told : tie.Need-enum-told
 enum-told c = search needs
 
--- src/lib.rt:310:29
 to-requires : tie.Need-to-requires
 to-requires c κs = search needs
 
--- src/lib.rt:305:1
 returns : tie.Need-returns
 unfolding stepWord
 returns c = rw (c .before .before .d .given .1) (c .step .ensures)
 
--- src/lib.rt:305:1
 returns-2 : tie.Need-returns-2
 unfolding stepWord
 returns-2 c = rw (c .before .enum-told .given .1) (c .to .ensures)

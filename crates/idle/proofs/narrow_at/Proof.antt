@@ -9,31 +9,24 @@ use Rattle.idle.proofs.narrow_at.Tie as tie
 use Rattle.idle.proofs.narrow_at.Reads as reads
 use Rattle.idle.proofs.narrow_at.Lts as lts
 
--- src/lib.rt:27:20
 mul-words : tie.Need-mul-words
 mul-words c = search needs
 
--- src/lib.rt:27:20
 slice-read-words : tie.Need-slice-read-words
 slice-read-words c = search needs
 
--- src/lib.rt:27:9
 mul-words-2 : tie.Need-mul-words-2
 mul-words-2 c = search needs
 
--- src/lib.rt:27:9
 slice-write-words : tie.Need-slice-write-words
 slice-write-words c = search needs
 
--- src/lib.rt:23:1
 same-length : tie.Need-same-length
 same-length c = search needs
 
--- src/lib.rt:23:1
 returns : tie.Need-returns
 returns c = search needs
 
--- src/lib.rt:23:1
 returns-2 : tie.Need-returns-2
 returns-2 c = sym (set-out (c .before .args .words .now) (c .before .args .x) (bitAnd (getD (c .before .args .words .now) (c .before .args .x) 0) (c .before .args .w)) (omega arith))
 

@@ -12,14 +12,12 @@ use Rattle.idle.proofs.narrow_leaf.Tie as tie
 use Rattle.idle.proofs.narrow_leaf.Reads as reads
 use Rattle.idle.proofs.narrow_leaf.Lts as lts
 use Rattle.idle.proofs.narrow.Reads as narrow-reads
-use Rattle.idle.proofs.word.Reads as word-reads
+use Rattle.slices.proofs.word.Reads as word-reads
 use Rattle.tables.proofs.initial.Reads as initial-reads
 
--- src/lib.rt:55:8
 initial-requires : tie.Need-initial-requires
 initial-requires c κs = search needs
 
--- src/lib.rt:56:9
 returns : tie.Need-returns
 returns c = (
   refl,
@@ -30,19 +28,15 @@ returns c = (
       (leaf-initial c' (a .l) (r .sound .initials (a .l) h) ∙ ap (λ y. eqb y 0) (sym (s .ensures c' (r .states))) ∙ ne-eqb (s .result) 0 (c .if1 .taken)),
 )
 
--- src/lib.rt:58:20
 word-requires : tie.Need-word-requires
 word-requires c κs = search needs
 
--- src/lib.rt:58:5
 narrow-requires : tie.Need-narrow-requires
 narrow-requires c κs = search needs
 
--- src/lib.rt:50:1
 same-length : tie.Need-same-length
 same-length c = search needs
 
--- src/lib.rt:50:1
 returns-2 : tie.Need-returns-2
 returns-2 c =
     let a = c .before .before .before .before .before .before .before .before .before .before .args in
@@ -51,7 +45,7 @@ returns-2 c =
     let f = c .before .before .narrow in (
       f .ensures .0,
       λ c' r h n x p q g.
-          f .ensures .1 c' (r .states) (r .sound .hierarchy 0 (omega arith) .root refl) n x g
+          f .ensures .1 c' (r .states) (r .sound .tree .hierarchy 0 (omega arith) .root refl) n x g
           ∙ narrow-leaf c' n x (a .l) (inputOn (getD (a .words .now) x 0) n) (inputOn (w .result) n)
           (leaf-initial c' (a .l) (r .sound .initials (a .l) h) ∙ ap (λ y. eqb y 0) (sym (s .ensures c' (r .states))) ∙ eq-eqb (s .result) 0 (c .before .before .before .before .before .if1 .left))
           (ap (λ y. inputOn y n) (w .ensures) ∙ running-at c' (a .running .now) n (a .l) (r .running) p q h),

@@ -4,7 +4,7 @@ use Rattle.il.specs.Run.{Reached, advanced}
 use Rattle.format.specs.Decode.{decoded}
 use lib.ListN.{length, drop, getD}
 use native.Mathlib.Omega.{arith}
-use Prim.Native.Nat.{_-_, _≤_}
+use Prim.Native.Nat.{_-_}
 use mathlib.Core.Path.{_≡_, refl, sym, ap, _∙_}
 use borrow.Author.Needs.{needs}
 use Rattle.il.proofs.advance.Statement.{statement}
@@ -21,31 +21,24 @@ Inv-loop words ff₀ x count at₀ s₀ ff at s =
 abbrev μ-loop : tie.MeasureT-loop
 μ-loop words ff₀ x count at₀ s₀ ff at s = length words - at
 
--- src/lib.rt:29:5
 loop-holds : tie.Need-loop-holds Inv-loop μ-loop
 loop-holds c = (refl, refl)
 
--- src/lib.rt:30:17
 mul-w : tie.Need-mul-w Inv-loop μ-loop
 mul-w c = search needs
 
--- src/lib.rt:30:17
 shared-slice-read-w : tie.Need-shared-slice-read-w Inv-loop μ-loop
 shared-slice-read-w c = omega arith
 
--- src/lib.rt:31:9
 add-at : tie.Need-add-at Inv-loop μ-loop
 add-at c = omega arith
 
--- src/lib.rt:32:13
 word-due-requires : tie.Need-word-due-requires Inv-loop μ-loop
 word-due-requires c κs = tt
 
--- src/lib.rt:34:13
 same-length : tie.Need-same-length Inv-loop μ-loop
 same-length c = c .before .before .before .before .loop .inv .0
 
--- src/lib.rt:34:13
 returns : tie.Need-returns Inv-loop μ-loop
 returns c =
     let l = c .before .before .before .before in
@@ -55,15 +48,12 @@ returns c =
     let g : Goes (a .count) (length (a .words .now)) (a .p .at) (advanced (a .x) (a .count) (drop (a .p .at) (a .words .now)) (a .p .at) (a .p .running) (a .ff .now) .stop) = advance-goes (a .x) (a .count) (a .words .now) (a .p .at) (a .p .running) (a .ff .now) in
     (rw e (sym (ap (λ (z : Reached). z .stop) r)), sym (ap (λ (z : Reached). z .ff) r), rw e (rw (ap (λ (z : Reached). z .stop) r) at g))
 
--- src/lib.rt:43:9
 run-word-requires : tie.Need-run-word-requires Inv-loop μ-loop
 run-word-requires c κs = tt
 
--- src/lib.rt:29:5
 loop-less : tie.Need-loop-less Inv-loop μ-loop
 loop-less c = omega arith
 
--- src/lib.rt:29:5
 loop-again : tie.Need-loop-again Inv-loop μ-loop
 loop-again c =
     let l = c .before .before .before .before .before .before .before .before in
@@ -72,11 +62,9 @@ loop-again c =
     let r = sym (advance-on (a .x) (a .count) (a .words .now) (l .loop .at) (l .loop .s) (l .loop .ff) (omega arith) (rw e at (c .before .before .before .before .if1 .left))) ∙ l .loop .inv .1 in
     (c .before .before .run-word .kept .0 ∙ l .loop .inv .0, rw (c .before .before .run-word .ensures .0, c .before .before .run-word .ensures .1) r)
 
--- src/lib.rt:22:1
 same-length-2 : tie.Need-same-length-2 Inv-loop μ-loop
 same-length-2 c = c .before .loop .inv .0
 
--- src/lib.rt:22:1
 returns-2 : tie.Need-returns-2 Inv-loop μ-loop
 returns-2 c =
     let l = c .before in

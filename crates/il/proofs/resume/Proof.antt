@@ -9,20 +9,16 @@ use Rattle.il.proofs.resume.Reads as reads
 use Rattle.il.proofs.resume.Lts as lts
 use Rattle.values.proofs.with_bit.Reads as with-bit-reads
 
--- src/lib.rt:470:29
 cast-with-bit : tie.Need-cast-with-bit
 cast-with-bit c = search needs
 
--- src/lib.rt:470:9
 with-bit-requires : tie.Need-with-bit-requires
 with-bit-requires c κs = search needs
 
--- src/lib.rt:463:1
 returns : tie.Need-returns
 unfolding resumed
 returns c = rw (c .with-bit .ensures)
 
--- src/lib.rt:463:1
 returns-2 : tie.Need-returns-2
 unfolding resumed withBit
 returns-2 c = rw (le-ltb (c .before .before .args .p .block) 64 (omega arith))

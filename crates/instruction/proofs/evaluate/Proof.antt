@@ -12,149 +12,115 @@ use Rattle.instruction.proofs.Running.put_aside.Reads as put-aside-read
 use Rattle.instruction.proofs.Running.store.Reads as store-reads
 use Rattle.values.proofs.value.Reads as value-reads
 
--- src/lib.rt:199:22
 enum-known-i : tie.Need-enum-known-i
 enum-known-i c = search needs
 
--- src/lib.rt:199:35
 value-requires : tie.Need-value-requires
 value-requires c κs = search needs
 
--- src/lib.rt:199:28
 load-requires : tie.Need-load-requires
 load-requires c κs = search needs
 
--- src/lib.rt:200:23
 enum-known-i-2 : tie.Need-enum-known-i-2
 enum-known-i-2 c = search needs
 
--- src/lib.rt:200:37
 value-requires-2 : tie.Need-value-requires-2
 value-requires-2 c κs = search needs
 
--- src/lib.rt:200:29
 load-requires-2 : tie.Need-load-requires-2
 load-requires-2 c κs = search needs
 
--- src/lib.rt:201:23
 enum-known-i-3 : tie.Need-enum-known-i-3
 enum-known-i-3 c = search needs
 
--- src/lib.rt:201:35
 value-requires-3 : tie.Need-value-requires-3
 value-requires-3 c κs = search needs
 
--- src/lib.rt:201:29
 and-requires : tie.Need-and-requires
 and-requires c κs = search needs
 
--- src/lib.rt:202:24
 enum-known-i-4 : tie.Need-enum-known-i-4
 enum-known-i-4 c = search needs
 
--- src/lib.rt:202:37
 value-requires-4 : tie.Need-value-requires-4
 value-requires-4 c κs = search needs
 
--- src/lib.rt:202:30
 and-requires-2 : tie.Need-and-requires-2
 and-requires-2 c κs = search needs
 
--- src/lib.rt:203:25
 enum-told : tie.Need-enum-told
 enum-told c = search needs
 
--- src/lib.rt:203:25
 put-aside-requires : tie.Need-put-aside-requires
 put-aside-requires c κs = search needs
 
--- src/lib.rt:204:28
 enum-told-2 : tie.Need-enum-told-2
 enum-told-2 c = search needs
 
--- src/lib.rt:204:28
 or-aside-requires : tie.Need-or-aside-requires
 or-aside-requires c κs = search needs
 
--- src/lib.rt:205:22
 enum-known-i-5 : tie.Need-enum-known-i-5
 enum-known-i-5 c = search needs
 
--- src/lib.rt:205:28
 store-requires : tie.Need-store-requires
 store-requires c κs = search needs
 
--- src/lib.rt:206:27
 enum-told-3 : tie.Need-enum-told-3
 enum-told-3 c = search needs
 
--- src/lib.rt:207:27
 enum-told-4 : tie.Need-enum-told-4
 enum-told-4 c = search needs
 
--- src/lib.rt:208:29
 enum-told-5 : tie.Need-enum-told-5
 enum-told-5 c = search needs
 
--- src/lib.rt:209:26
 enum-known-i-6 : tie.Need-enum-known-i-6
 enum-known-i-6 c = search needs
 
--- src/lib.rt:209:32
 load-time-requires : tie.Need-load-time-requires
 load-time-requires c κs = search needs
 
--- src/lib.rt:194:1
 returns : tie.Need-returns
 unfolding evaluated
 returns c = rw (c .before .before .before .i .given .1, c .load .ensures, c .before .value .ensures)
 
--- src/lib.rt:194:1
 returns-2 : tie.Need-returns-2
 unfolding evaluated
 returns-2 c = rw (c .before .before .before .i2 .given .1, c .load2 .ensures, c .before .value2 .ensures)
 
--- src/lib.rt:194:1
 returns-3 : tie.Need-returns-3
 unfolding evaluated
 returns-3 c = rw (c .before .before .before .i3 .given .1, c .and .ensures, c .before .value3 .ensures)
 
--- src/lib.rt:194:1
 returns-4 : tie.Need-returns-4
 unfolding evaluated
 returns-4 c = rw (c .before .before .before .i4 .given .1, c .and2 .ensures, c .before .value4 .ensures)
 
--- src/lib.rt:194:1
 returns-5 : tie.Need-returns-5
 unfolding evaluated
 returns-5 c = rw (c .before .enum-told .given .1, c .put-aside .ensures)
 
--- src/lib.rt:194:1
 returns-6 : tie.Need-returns-6
 unfolding evaluated
 returns-6 c = rw (c .before .enum-told2 .given .1, c .or-aside .ensures)
 
--- src/lib.rt:194:1
 returns-7 : tie.Need-returns-7
 unfolding evaluated
 returns-7 c = rw (c .before .before .i5 .given .1, c .store .ensures)
 
--- src/lib.rt:194:1
 returns-8 : tie.Need-returns-8
 unfolding evaluated
 returns-8 c = rw (c .enum-told3 .given .1)
 
--- src/lib.rt:194:1
 returns-9 : tie.Need-returns-9
 unfolding evaluated
 returns-9 c = rw (c .enum-told4 .given .1)
 
--- src/lib.rt:194:1
 returns-10 : tie.Need-returns-10
 unfolding evaluated
 returns-10 c = rw (c .enum-told5 .given .1)
 
--- src/lib.rt:194:1
 returns-11 : tie.Need-returns-11
 unfolding evaluated
 returns-11 c = rw (c .before .before .i6 .given .1, c .load-time .ensures)

@@ -7,32 +7,25 @@ use Rattle.instruction.proofs.run_one.Lts as lts
 use Rattle.stores.proofs.change.Reads as change-reads
 use Rattle.instruction.proofs.evaluate.Reads as evaluate-reads
 
--- src/lib.rt:309:24
 enum-known-d : tie.Need-enum-known-d
 enum-known-d c = search needs
 
--- src/lib.rt:311:17
 evaluate-requires : tie.Need-evaluate-requires
 evaluate-requires c κs = search needs
 
--- src/lib.rt:312:13
 change-requires : tie.Need-change-requires
 change-requires c κs = search needs
 
--- src/lib.rt:315:29
 enum-told : tie.Need-enum-told
 enum-told c = search needs
 
--- src/lib.rt:305:1
 same-length : tie.Need-same-length
 same-length c = search needs
 
--- src/lib.rt:305:1
 returns : tie.Need-returns
 unfolding running flipFlops
 returns c = (rw (c .before .before .before .before .before .before .before .d .given .1, c .before .before .before .before .evaluate .ensures), rw (c .before .before .before .before .before .before .before .d .given .1, c .before .before .change .ensures))
 
--- src/lib.rt:305:1
 returns-2 : tie.Need-returns-2
 unfolding running flipFlops
 returns-2 c = (rw (c .enum-told .given .1), rw (c .enum-told .given .1))

@@ -6,19 +6,15 @@ use Rattle.instruction.proofs.run_word.Lts as lts
 use Rattle.decode.proofs.decode.Reads as decode-reads
 use Rattle.instruction.proofs.run_one.Reads as run-one-reads
 
--- src/lib.rt:315:20
 decode-requires : tie.Need-decode-requires
 decode-requires c κs = search needs
 
--- src/lib.rt:315:5
 run-one-requires : tie.Need-run-one-requires
 run-one-requires c κs = search needs
 
--- src/lib.rt:312:1
 same-length : tie.Need-same-length
 same-length c = search needs
 
--- src/lib.rt:312:1
 returns : tie.Need-returns
 returns c = rw (← c .before .before .before .decode .ensures) (c .before .before .run-one .ensures)
 

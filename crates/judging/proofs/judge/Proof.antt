@@ -10,45 +10,35 @@ use Rattle.phases.proofs.words_pass.Reads as words-pass-reads
 use Rattle.judging.proofs.state_passes.Reads as state-passes-reads
 use Rattle.judging.proofs.then_scans.Reads as then-scans-reads
 
--- src/lib.rt:68:9
 returns : tie.Need-returns
 returns c = JudgedBy.step (step-low (c .before .before .before .args .step) (omega arith)) refl
 
--- src/lib.rt:71:9
 returns-2 : tie.Need-returns-2
 returns-2 c = JudgedBy.step (step-high (c .before .before .before .before .args .step) (omega arith)) refl
 
--- src/lib.rt:73:9
 words-pass-requires : tie.Need-words-pass-requires
 words-pass-requires c κs = search needs
 
--- src/lib.rt:75:26
 enum-known-passed : tie.Need-enum-known-passed
 enum-known-passed c = search needs
 
--- src/lib.rt:76:53
 cast-state-passes : tie.Need-cast-state-passes
 cast-state-passes c = search needs
 
--- src/lib.rt:76:17
 state-passes-requires : tie.Need-state-passes-requires
 state-passes-requires c κs = search needs
 
--- src/lib.rt:77:13
 then-scans-requires : tie.Need-then-scans-requires
 then-scans-requires c κs = search needs
 
--- src/lib.rt:79:25
 enum-known-passed-2 : tie.Need-enum-known-passed-2
 enum-known-passed-2 c = search needs
 
--- src/lib.rt:56:1
 returns-3 : tie.Need-returns-3
 returns-3 c =
     let h = rw (c .before .before .before .passed .given .1) at (c .before .before .before .before .before .words-pass .ensures) in
     JudgedBy.rest (step-in (c .before .before .before .before .before .before .before .before .before .before .args .step) (omega arith) (omega arith)) (h .program) (record { program = h .fitting; list = h .listing }) (c .before .state-passes .result) (rw (h .blocks) (c .before .state-passes .ensures)) (c .then-scans .ensures)
 
--- src/lib.rt:56:1
 returns-4 : tie.Need-returns-4
 returns-4 c = JudgedBy.text (step-in (c .before .before .before .before .before .before .before .before .args .step) (omega arith) (omega arith)) _ (rw (c .before .passed2 .given .1) at (c .before .before .before .words-pass .ensures)) refl
 

@@ -9,30 +9,24 @@ use Rattle.judging.proofs.state_passes.Lts as lts
 use Rattle.controller.proofs.are_bits.Reads as are-bits-reads
 use Rattle.sizes.proofs.flip_flop_bytes.Reads as flip-flop-bytes-reads
 
--- src/lib.rt:30:9
 flip-flop-bytes-requires : tie.Need-flip-flop-bytes-requires
 flip-flop-bytes-requires c κs = search needs
 
--- src/lib.rt:32:9
 returns : tie.Need-returns
 returns c = ((λ e. absurd (false≢true e)), (λ h. absurd (omega (arith, h .size, c .before .flip-flop-bytes .ensures))))
 
--- src/lib.rt:35:9
 returns-2 : tie.Need-returns-2
 returns-2 c = ((λ e. absurd (false≢true e)), (λ h. absurd (omega (arith, h .blocks))))
 
--- src/lib.rt:38:9
 are-bits-requires : tie.Need-are-bits-requires
 are-bits-requires c κs = search needs
 
--- src/lib.rt:38:9
 returns-3 : tie.Need-returns-3
 returns-3 c = (
   (λ e. record { size = omega (arith, c .before .before .before .before .flip-flop-bytes .ensures); blocks = omega arith; bits = c .are-bits .ensures .0 e; times = c .before .if3 .taken }),
   (λ h. c .are-bits .ensures .1 (h .bits)),
 )
 
--- src/lib.rt:27:1
 returns-4 : tie.Need-returns-4
 returns-4 c = ((λ e. absurd (false≢true e)), (λ h. absurd (false≢true (sym (c .if3 .left) ∙ h .times))))
 

@@ -5,15 +5,12 @@ use Rattle.judging.proofs.then_scans.Tie as tie
 use Rattle.judging.proofs.then_scans.Reads as reads
 use Rattle.judging.proofs.then_scans.Lts as lts
 
--- src/lib.rt:50:13
 returns : tie.Need-returns
 returns c = rw (c .before .if1 .taken, eq-eqb (c .before .before .args .results) (c .before .before .args .scans) (omega arith))
 
--- src/lib.rt:52:9
 returns-2 : tie.Need-returns-2
 returns-2 c = rw (c .before .if1 .taken, ne-eqb (c .before .before .args .results) (c .before .before .args .scans) (λ e. omega arith))
 
--- src/lib.rt:45:1
 returns-3 : tie.Need-returns-3
 returns-3 c = rw (c .if1 .left)
 

@@ -11,7 +11,7 @@ use Rattle.layout.proofs.lay_out.Statement.{statement}
 use Rattle.layout.proofs.lay_out.Tie as tie
 use Rattle.layout.proofs.lay_out.Reads as reads
 use Rattle.layout.proofs.lay_out.Lts as lts
-use Rattle.layout.proofs.codes_each.Reads as codes-each-reads
+use Rattle.layout.proofs.codes_of.Reads as codes-of-reads
 use Rattle.layout.proofs.laid_states.Reads as laid-states-reads
 use Rattle.layout.proofs.sub_states_each.Reads as sub-states-each-reads
 use Rattle.layout.proofs.width.Reads as width-reads
@@ -30,8 +30,8 @@ laid-states-requires c κs = tt
 sub-states-each-requires : tie.Need-sub-states-each-requires Inv-loop μ-loop
 sub-states-each-requires c κs = tt
 
-codes-each-requires : tie.Need-codes-each-requires Inv-loop μ-loop
-codes-each-requires c κs = tt
+codes-of-requires : tie.Need-codes-of-requires Inv-loop μ-loop
+codes-of-requires c κs = tt
 
 loop-holds : tie.Need-loop-holds Inv-loop μ-loop
 unfolding groupFirst
@@ -103,7 +103,7 @@ returns c c' e =
     record {
       first = i .0 ∙ ap (row (groupFirst c')) z;
       width = i .1 ∙ ap (row (groupWidth c')) z;
-      code = c .before .before .codes-each .ensures c' e;
+      code = c .before .before .codes-of .ensures c' e;
       total = i .2 ∙ ap (groupFirst c') z;
     }
 
@@ -115,7 +115,7 @@ lay-out-spec =
     μ-loop
     laid-states-requires
     sub-states-each-requires
-    codes-each-requires
+    codes-of-requires
     loop-holds
     mul-width
     array-read-width

@@ -39,7 +39,7 @@ same-length-3 c = search needs
 returns : tie.Need-returns
 returns c c' g R =
     let few = c .before .before .before .before .before .before .before .before .before .before .before .before .before .before .before .before .before .before .before .before .before .is-small .ensures (c .before .before .before .before .before .before .before .before .before .before .before .before .before .before .before .before .before .before .before .before .if1 .taken) in
-    c .before .before .before .before .before .before .before .before .before .before .before .run-in .ensures c' g R (zero-room c' 32 (replicate 128 0) (omega (arith, few .0, state-count c' _ (g .states))) (omega (arith, few .1, move-count c' _ (g .moves))))
+    c .before .before .before .before .before .before .before .before .before .before .before .run-in .ensures c' g R (zero-room c' 32 (replicate 128 0) (omega (arith, few .0, state-count c' _ (g .lent .states))) (omega (arith, few .1, move-count c' _ (g .lent .moves))))
 
 run-large-requires : tie.Need-run-large-requires
 run-large-requires c κs = search needs

@@ -48,8 +48,8 @@ same-length-4 c = search needs
 returns : tie.Need-returns
 returns c c' g R O =
     let a = c .before .before .before .before .before .before .before .before .before .before .before .before .before .before .before .before .before .before .before .before .before .before .before .before .before .before .before .before .before .args in
-    let C = codes-given c' (R .size .fewStates) (c .before .before .before .before .before .before .before .before .before .before .before .before .before .before .before .codes-of .result) (c .before .before .before .before .before .before .before .before .before .before .before .before .before .before .before .codes-of .ensures c' (g .states)) in
-    let r = c .before .before .before .before .before .before .before .before .state-passes .ensures c' (g .step) (g .states) (g .presets) (g .timerPairs) R C (O .state) in
+    let C = codes-given c' (R .size .fewStates) (c .before .before .before .before .before .before .before .before .before .before .before .before .before .before .before .codes-of .result) (c .before .before .before .before .before .before .before .before .before .before .before .before .before .before .before .codes-of .ensures c' (g .lent .states)) in
+    let r = c .before .before .before .before .before .before .before .before .state-passes .ensures c' (g .step) (g .lent .states) (g .lent .presets) (g .lent .timerPairs) R C (O .state) in
     refused-state c' (a .inputs .now) (a .state .now) (a .leaves .now) (a .outputs .now) (sym (r .0) ∙ not-true _ (c .if1 .taken))
 
 scans-pass-requires : tie.Need-scans-pass-requires
@@ -70,8 +70,8 @@ same-length-8 c = search needs
 returns-2 : tie.Need-returns-2
 returns-2 c c' g R O =
     let a = c .before .before .before .before .before .before .before .before .before .before .before .before .before .before .before .before .before .before .before .before .before .before .before .before .before .before .before .before .before .before .before .args in
-    let C = codes-given c' (R .size .fewStates) (c .before .before .before .before .before .before .before .before .before .before .before .before .before .before .before .before .before .codes-of .result) (c .before .before .before .before .before .before .before .before .before .before .before .before .before .before .before .before .before .codes-of .ensures c' (g .states)) in
-    let r = c .before .before .before .before .before .before .before .before .before .before .state-passes .ensures c' (g .step) (g .states) (g .presets) (g .timerPairs) R C (O .state) in
+    let C = codes-given c' (R .size .fewStates) (c .before .before .before .before .before .before .before .before .before .before .before .before .before .before .before .before .before .codes-of .result) (c .before .before .before .before .before .before .before .before .before .before .before .before .before .before .before .before .before .codes-of .ensures c' (g .lent .states)) in
+    let r = c .before .before .before .before .before .before .before .before .before .before .state-passes .ensures c' (g .step) (g .lent .states) (g .lent .presets) (g .lent .timerPairs) R C (O .state) in
     refused-scans c' (a .inputs .now) (a .state .now) (a .leaves .now) (a .outputs .now) (sym (r .0) ∙ not-false _ (c .before .before .if1 .left)) (sym (c .before .scans-pass .ensures) ∙ not-true _ (c .if2 .taken))
 
 slice-aggregate-run : tie.Need-slice-aggregate-run
@@ -116,8 +116,8 @@ same-length-16 c = c .before .before .before .before .before .before .before .be
 returns-3 : tie.Need-returns-3
 returns-3 c c' g R O =
     let a = c .before .before .before .before .before .before .before .before .before .before .before .before .before .before .before .before .before .before .before .before .before .before .before .before .before .before .before .before .before .before .before .before .before .before .before .before .before .before .before .before .before .before .before .before .before .before .before .before .before .before .before .before .before .before .before .before .before .args in
-    let C = codes-given c' (R .size .fewStates) (c .before .before .before .before .before .before .before .before .before .before .before .before .before .before .before .before .before .before .before .before .before .before .before .before .before .before .before .before .before .before .before .before .before .before .before .before .before .before .before .before .before .before .before .codes-of .result) (c .before .before .before .before .before .before .before .before .before .before .before .before .before .before .before .before .before .before .before .before .before .before .before .before .before .before .before .before .before .before .before .before .before .before .before .before .before .before .before .before .before .before .before .codes-of .ensures c' (g .states)) in
-    let r = c .before .before .before .before .before .before .before .before .before .before .before .before .before .before .before .before .before .before .before .before .before .before .before .before .before .before .before .before .before .before .before .before .before .before .before .before .state-passes .ensures c' (g .step) (g .states) (g .presets) (g .timerPairs) R C (O .state) in
+    let C = codes-given c' (R .size .fewStates) (c .before .before .before .before .before .before .before .before .before .before .before .before .before .before .before .before .before .before .before .before .before .before .before .before .before .before .before .before .before .before .before .before .before .before .before .before .before .before .before .before .before .before .before .codes-of .result) (c .before .before .before .before .before .before .before .before .before .before .before .before .before .before .before .before .before .before .before .before .before .before .before .before .before .before .before .before .before .before .before .before .before .before .before .before .before .before .before .before .before .before .before .codes-of .ensures c' (g .lent .states)) in
+    let r = c .before .before .before .before .before .before .before .before .before .before .before .before .before .before .before .before .before .before .before .before .before .before .before .before .before .before .before .before .before .before .before .before .before .before .before .before .state-passes .ensures c' (g .step) (g .lent .states) (g .lent .presets) (g .lent .timerPairs) R C (O .state) in
     let l = a .state .now in
     let sp = c .before .before .before .before .before .before .before .before .before .before .before .before .before .before .before .before .before .before .before .before .before .before .before .before .before .before .before .before .before .before .before .before .before .before .before .before .state-passes in
     let run = c .before .before .before .before .before .before .before .before .before .before .before .before .before .before .before .before .before .before .run in
@@ -130,13 +130,13 @@ returns-3 c c' g R O =
     let D = r .1 yes-passes in
     let long = right-length c' R l passes in
     let v : Valid c' (held c' (sp .last .1 .1 .1 .1 .1 .1 .1 .0) (sp .last .1 .1 .1 .1 .1 .1 .1 .1 .0)) = rw (D .state) (lent-valid c' R l passes) in
-    let G : Given c' (a .chart .step) (a .chart .outputs) (a .states .now) (a .moves .now) (a .presets .now) (c' .timerPairs) (a .output-pairs .now) = record { step = g .step; outputs = g .outputs; states = g .states; moves = g .moves; presets = g .presets; timerPairs = refl; outputPairs = g .outputPairs } in
+    let G : Given c' (a .chart .step) (a .chart .outputs) (a .states .now) (a .moves .now) (a .presets .now) (c' .timerPairs) (a .output-pairs .now) = record { step = g .step; outputs = g .outputs; lent = record { states = g .lent .states; moves = g .lent .moves; presets = g .lent .presets; timerPairs = refl; outputPairs = g .lent .outputPairs } } in
     let full : length (sp .last .1 .1 .1 .1 .1 .1 .1 .1 .0) ≡ 32 = sp .kept .1 .1 .1 .1 .1 .1 .1 .1 .0 ∙ O .state .timersRoom in
     let s = run .ensures c' G R (D .running) (O .scans) (omega (arith, O .state .memoryRoom, sp .kept .1 .1 .1 .1 .1 .1 .1 .0)) full v same-leaves same-outputs in
     let w : Valid c' (held c' (run .last .1 .1 .1 .1 .1 .1 .1 .1 .0) (run .last .1 .1 .1 .1 .1 .1 .1 .1 .1 .0)) = rw (s .state) (after-valid c' R (a .inputs .now) _ v) in
     done c' (a .inputs .now) (a .state .now) (a .leaves .now) (a .outputs .now) passes same-leaves same-outputs (held c' (run .last .1 .1 .1 .1 .1 .1 .1 .1 .0) (run .last .1 .1 .1 .1 .1 .1 .1 .1 .1 .0))
     (c .before .before .encode .last .1 .1 .1 .1 .1 .0) (run .last .1 .1 .1 .1 .1 .1 .1 .1 .1 .1 .1 .0) (run .last .1 .1 .1 .1 .1 .1 .1 .1 .1 .1 .1 .1 .0)
-    (rw (D .state) at s) (c .before .before .encode .ensures c' (g .states) (g .presets) R C (run .kept .1 .1 .1 .1 .1 .1 .1 .1 .1 .0 ∙ full) w long)
+    (rw (D .state) at s) (c .before .before .encode .ensures c' (g .lent .states) (g .lent .presets) R C (run .kept .1 .1 .1 .1 .1 .1 .1 .1 .1 .0 ∙ full) w long)
 
 pub run-in-spec : {M : Type 1} → statement M
 run-in-spec =

@@ -7,57 +7,45 @@ use Rattle.line.proofs.and_of.Reads as reads
 use Rattle.line.proofs.and_of.Lts as lts
 use Rattle.operands.proofs.test_after.Reads as test-after-reads
 
--- src/lib.rt:174:9
 returns : tie.Need-returns
 returns c = short-and _ (c .before .before .pre) (omega arith)
 
--- src/lib.rt:176:8
 shared-slice-read-if2 : tie.Need-shared-slice-read-if2
 shared-slice-read-if2 c = search needs
 
--- src/lib.rt:177:45
 slice-aggregate-test-after : tie.Need-slice-aggregate-test-after
 slice-aggregate-test-after c = search needs
 
--- src/lib.rt:177:31
 test-after-requires : tie.Need-test-after-requires
 test-after-requires c κs = search needs
 
--- src/lib.rt:177:26
 enum-known-o : tie.Need-enum-known-o
 enum-known-o c = search needs
 
--- src/lib.rt:178:13
 returns-2 : tie.Need-returns-2
 returns-2 c = test-andn (rw (c .before .o .given .1) at (c .before .before .before .test-after .ensures))
 
 enum-told : tie.Need-enum-told
 enum-told c = search needs
 
--- src/lib.rt:180:9
 returns-3 : tie.Need-returns-3
 returns-3 c = no-andn (c .before .before .before .before .before .before .before .before .pre) (c .before .before .before .before .if2 .taken) (rw (c .enum-told .given .1) at (c .before .before .test-after .ensures))
 
--- src/lib.rt:182:41
 slice-aggregate-test-after-2 : tie.Need-slice-aggregate-test-after-2
 slice-aggregate-test-after-2 c = search needs
 
--- src/lib.rt:182:27
 test-after-requires-2 : tie.Need-test-after-requires-2
 test-after-requires-2 c κs = search needs
 
--- src/lib.rt:182:22
 enum-known-o-2 : tie.Need-enum-known-o-2
 enum-known-o-2 c = search needs
 
--- src/lib.rt:183:9
 returns-4 : tie.Need-returns-4
 returns-4 c = test-and (rw (c .before .o2 .given .1) at (c .before .before .before .test-after2 .ensures))
 
 enum-told-2 : tie.Need-enum-told-2
 enum-told-2 c = search needs
 
--- src/lib.rt:169:1
 returns-5 : tie.Need-returns-5
 returns-5 c = no-and (c .before .before .before .before .before .before .before .before .pre) (c .before .before .before .before .if2 .left) (rw (c .enum-told2 .given .1) at (c .before .before .test-after2 .ensures))
 

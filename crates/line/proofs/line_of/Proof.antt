@@ -11,43 +11,33 @@ use Rattle.line.proofs.load_of.Reads as load-of-reads
 use Rattle.line.proofs.other_of.Reads as other-of-reads
 use Rattle.line.proofs.store_of.Reads as store-of-reads
 
--- src/lib.rt:254:9
 returns : tie.Need-returns
 returns c = no-line _ (c .if1 .taken)
 
--- src/lib.rt:256:13
 shared-slice-read-a : tie.Need-shared-slice-read-a
 shared-slice-read-a c = search needs
 
--- src/lib.rt:258:15
 and-of-requires : tie.Need-and-of-requires
 and-of-requires c κs = search needs
 
--- src/lib.rt:259:15
 load-of-requires : tie.Need-load-of-requires
 load-of-requires c κs = search needs
 
--- src/lib.rt:260:20
 store-of-requires : tie.Need-store-of-requires
 store-of-requires c κs = search needs
 
--- src/lib.rt:261:14
 other-of-requires : tie.Need-other-of-requires
 other-of-requires c κs = (λ e. omega arith, λ e. omega arith, λ h. ⊎-elim (λ w. omega arith) (λ w. omega arith) (c .if2 .came))
 
--- src/lib.rt:250:1
 returns-2 : tie.Need-returns-2
 returns-2 c = search needs
 
--- src/lib.rt:250:1
 returns-3 : tie.Need-returns-3
 returns-3 c = search needs
 
--- src/lib.rt:250:1
 returns-4 : tie.Need-returns-4
 returns-4 c = search needs
 
--- src/lib.rt:250:1
 returns-5 : tie.Need-returns-5
 returns-5 c = search needs
 

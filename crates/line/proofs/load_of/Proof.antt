@@ -9,104 +9,81 @@ use Rattle.decimals.proofs.numbered.Reads as numbered-reads
 use Rattle.decimals.proofs.same.Reads as same-reads
 use Rattle.operands.proofs.test_after.Reads as test-after-reads
 
--- src/lib.rt:194:9
 returns : tie.Need-returns
 returns c = short-ld _ (c .before .before .pre) (omega arith)
 
--- src/lib.rt:196:8
 shared-slice-read-if2 : tie.Need-shared-slice-read-if2
 shared-slice-read-if2 c = search needs
 
--- src/lib.rt:197:45
 slice-aggregate-test-after : tie.Need-slice-aggregate-test-after
 slice-aggregate-test-after c = search needs
 
--- src/lib.rt:197:31
 test-after-requires : tie.Need-test-after-requires
 test-after-requires c κs = search needs
 
--- src/lib.rt:197:26
 enum-known-o : tie.Need-enum-known-o
 enum-known-o c = search needs
 
--- src/lib.rt:198:13
 returns-2 : tie.Need-returns-2
 returns-2 c = test-ldn (rw (c .before .o .given .1) at (c .before .before .before .test-after .ensures))
 
 enum-told : tie.Need-enum-told
 enum-told c = search needs
 
--- src/lib.rt:200:9
 returns-3 : tie.Need-returns-3
 returns-3 c = no-ldn (c .before .before .before .before .before .before .before .before .pre) (c .before .before .before .before .if2 .taken) (rw (c .enum-told .given .1) at (c .before .before .test-after .ensures))
 
--- src/lib.rt:202:41
 slice-aggregate-test-after-2 : tie.Need-slice-aggregate-test-after-2
 slice-aggregate-test-after-2 c = search needs
 
--- src/lib.rt:202:27
 test-after-requires-2 : tie.Need-test-after-requires-2
 test-after-requires-2 c κs = search needs
 
--- src/lib.rt:202:22
 enum-known-o-2 : tie.Need-enum-known-o-2
 enum-known-o-2 c = search needs
 
--- src/lib.rt:203:9
 returns-4 : tie.Need-returns-4
 returns-4 c = load-test (rw (c .before .o2 .given .1) at (c .before .before .before .test-after2 .ensures))
 
 enum-told-2 : tie.Need-enum-told-2
 enum-told-2 c = search needs
 
--- src/lib.rt:205:16
 slice-aggregate-same : tie.Need-slice-aggregate-same
 slice-aggregate-same c = search needs
 
--- src/lib.rt:205:8
 same-requires : tie.Need-same-requires
 same-requires c κs = search needs
 
--- src/lib.rt:206:9
 returns-5 : tie.Need-returns-5
 returns-5 c = load-false (c .before .same .ensures .0 (c .if3 .taken))
 
--- src/lib.rt:208:16
 slice-aggregate-same-2 : tie.Need-slice-aggregate-same-2
 slice-aggregate-same-2 c = search needs
 
--- src/lib.rt:208:8
 same-requires-2 : tie.Need-same-requires-2
 same-requires-2 c κs = search needs
 
--- src/lib.rt:209:9
 returns-6 : tie.Need-returns-6
 returns-6 c = load-true (c .before .same2 .ensures .0 (c .if4 .taken))
 
--- src/lib.rt:211:40
 slice-aggregate-numbered : tie.Need-slice-aggregate-numbered
 slice-aggregate-numbered c = search needs
 
--- src/lib.rt:211:50
 slice-aggregate-numbered-2 : tie.Need-slice-aggregate-numbered-2
 slice-aggregate-numbered-2 c = search needs
 
--- src/lib.rt:211:28
 numbered-requires : tie.Need-numbered-requires
 numbered-requires c κs = search needs
 
--- src/lib.rt:211:23
 enum-known-n : tie.Need-enum-known-n
 enum-known-n c = search needs
 
--- src/lib.rt:212:9
 returns-7 : tie.Need-returns-7
 returns-7 c = load-time (rw (c .before .n .given .1) at (c .before .before .before .numbered .ensures))
 
 enum-told-3 : tie.Need-enum-told-3
 enum-told-3 c = search needs
 
--- src/lib.rt:189:1
 returns-8 : tie.Need-returns-8
 returns-8 c = no-ld (c .before .before .before .before .before .before .before .before .before .before .before .before .before .before .before .before .before .before .before .pre) (c .before .before .before .before .before .before .before .before .before .before .before .before .before .before .before .if2 .left) (rw (c .before .before .before .before .before .before .before .before .before .before .before .enum-told2 .given .1) at (c .before .before .before .before .before .before .before .before .before .before .before .before .before .test-after2 .ensures)) (differs (c .before .before .before .before .before .before .before .before .before .same .ensures) (c .before .before .before .before .before .before .before .before .if3 .left)) (differs (c .before .before .before .before .before .before .same2 .ensures) (c .before .before .before .before .before .if4 .left)) (rw (c .enum-told3 .given .1) at (c .before .before .numbered .ensures))
 

@@ -23,7 +23,6 @@ abbrev put-decimal-below : ℕ → In 1 put-decimal-kinds.ps
 put-decimal-below t =
     and 1 put-decimal-kinds.ps (falls 1 put-decimal-kinds.ps _<_ μ-put-decimal t) put-decimal.Pre
 
--- src/lib.rt:39:27
 put-decimal-cast-put : (t : ℕ) → put-decimal-lts.Need-cast-put (
   put-reads.Asked,
   put-reads.Learnt,
@@ -32,7 +31,6 @@ put-decimal-cast-put : (t : ℕ) → put-decimal-lts.Need-cast-put (
 ) (put-decimal-at t) put-decimal.Post
 put-decimal-cast-put t c = search needs
 
--- src/lib.rt:39:22
 put-decimal-add-put : (t : ℕ) → put-decimal-lts.Need-add-put (
   put-reads.Asked,
   put-reads.Learnt,
@@ -41,7 +39,6 @@ put-decimal-add-put : (t : ℕ) → put-decimal-lts.Need-add-put (
 ) (put-decimal-at t) put-decimal.Post
 put-decimal-add-put t c = search needs
 
--- src/lib.rt:39:9
 put-decimal-put-requires : (t : ℕ) → put-decimal-lts.Need-put-requires (
   put-reads.Asked,
   put-reads.Learnt,
@@ -50,7 +47,6 @@ put-decimal-put-requires : (t : ℕ) → put-decimal-lts.Need-put-requires (
 ) (put-decimal-at t) put-decimal.Post
 put-decimal-put-requires t c κs = search needs
 
--- src/lib.rt:41:13
 put-decimal-put-decimal-requires : (t : ℕ) → put-decimal-lts.Need-put-decimal-requires (
   put-reads.Asked,
   put-reads.Learnt,
@@ -59,7 +55,6 @@ put-decimal-put-decimal-requires : (t : ℕ) → put-decimal-lts.Need-put-decima
 ) (put-decimal-at t) put-decimal.Post
 put-decimal-put-decimal-requires t c κs = search needs
 
--- src/lib.rt:42:26
 put-decimal-cast-put-2 : (t : ℕ) → put-decimal-lts.Need-cast-put-2 (
   put-reads.Asked,
   put-reads.Learnt,
@@ -68,7 +63,6 @@ put-decimal-cast-put-2 : (t : ℕ) → put-decimal-lts.Need-cast-put-2 (
 ) (put-decimal-at t) put-decimal.Post
 put-decimal-cast-put-2 t c = search needs
 
--- src/lib.rt:42:21
 put-decimal-add-put-2 : (t : ℕ) → put-decimal-lts.Need-add-put-2 (
   put-reads.Asked,
   put-reads.Learnt,
@@ -77,7 +71,6 @@ put-decimal-add-put-2 : (t : ℕ) → put-decimal-lts.Need-add-put-2 (
 ) (put-decimal-at t) put-decimal.Post
 put-decimal-add-put-2 t c = search needs
 
--- src/lib.rt:42:9
 put-decimal-put-requires-2 : (t : ℕ) → put-decimal-lts.Need-put-requires-2 (
   put-reads.Asked,
   put-reads.Learnt,
@@ -86,7 +79,6 @@ put-decimal-put-requires-2 : (t : ℕ) → put-decimal-lts.Need-put-requires-2 (
 ) (put-decimal-at t) put-decimal.Post
 put-decimal-put-requires-2 t c κs = search needs
 
--- src/lib.rt:35:1
 put-decimal-same-length : (t : ℕ) → put-decimal-lts.Need-same-length (
   put-reads.Asked,
   put-reads.Learnt,
@@ -95,7 +87,6 @@ put-decimal-same-length : (t : ℕ) → put-decimal-lts.Need-same-length (
 ) (put-decimal-at t) put-decimal.Post
 put-decimal-same-length t c = search needs
 
--- src/lib.rt:35:1
 put-decimal-returns : (t : ℕ) → put-decimal-lts.Need-returns (
   put-reads.Asked,
   put-reads.Learnt,
@@ -105,7 +96,6 @@ put-decimal-returns : (t : ℕ) → put-decimal-lts.Need-returns (
 put-decimal-returns t c =
     rw (decimal-small (c .before .before .before .before .before .before .args .n) (omega arith)) (c .before .before .put .ensures)
 
--- src/lib.rt:35:1
 put-decimal-same-length-2 : (t : ℕ) → put-decimal-lts.Need-same-length-2 (
   put-reads.Asked,
   put-reads.Learnt,
@@ -114,7 +104,6 @@ put-decimal-same-length-2 : (t : ℕ) → put-decimal-lts.Need-same-length-2 (
 ) (put-decimal-at t) put-decimal.Post
 put-decimal-same-length-2 t c = search needs
 
--- src/lib.rt:35:1
 put-decimal-returns-2 : (t : ℕ) → put-decimal-lts.Need-returns-2 (
   put-reads.Asked,
   put-reads.Learnt,

@@ -7,33 +7,26 @@ use Rattle.lines.proofs.put.Tie as tie
 use Rattle.lines.proofs.put.Reads as reads
 use Rattle.lines.proofs.put.Lts as lts
 
--- src/lib.rt:16:9
 slice-write-out : tie.Need-slice-write-out
 slice-write-out c = search needs
 
--- src/lib.rt:17:16
 add-result : tie.Need-add-result
 add-result c = search needs
 
--- src/lib.rt:17:9
 same-length : tie.Need-same-length
 same-length c = search needs
 
--- src/lib.rt:17:9
 returns : tie.Need-returns
 returns c = search needs
 
--- src/lib.rt:19:20
 add-result-2 : tie.Need-add-result-2
 add-result-2 c = search needs
 
--- src/lib.rt:12:1
 returns-2 : tie.Need-returns-2
 returns-2 c =
     let a = c .before .before .args in
     record { fits = omega arith; list = sym (set-out (a .out .now) (a .at) (a .b) (omega arith)); next = omega arith }
 
--- src/lib.rt:12:1
 returns-3 : tie.Need-returns-3
 returns-3 c =
     let a = c .before .before .args in

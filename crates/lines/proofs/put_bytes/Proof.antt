@@ -16,27 +16,21 @@ Inv-loop out₀ at word i₀ p₀ out i p = (i ≤ length word) × Put out₀ at
 abbrev μ-loop : tie.MeasureT-loop
 μ-loop out₀ at word i₀ p₀ out i p = length word - i
 
--- src/lib.rt:27:5
 loop-holds : tie.Need-loop-holds Inv-loop μ-loop
 loop-holds c = (omega arith, put-none _ _ (omega arith) (omega arith))
 
--- src/lib.rt:28:25
 shared-slice-read-put : tie.Need-shared-slice-read-put Inv-loop μ-loop
 shared-slice-read-put c = omega arith
 
--- src/lib.rt:28:9
 put-requires : tie.Need-put-requires Inv-loop μ-loop
 put-requires c κs = tt
 
--- src/lib.rt:29:9
 add-i : tie.Need-add-i Inv-loop μ-loop
 add-i c = omega arith
 
--- src/lib.rt:27:5
 loop-less : tie.Need-loop-less Inv-loop μ-loop
 loop-less c = omega arith
 
--- src/lib.rt:27:5
 loop-again : tie.Need-loop-again Inv-loop μ-loop
 loop-again c =
     let b = c .before .before .before .before .before .before in
@@ -44,11 +38,9 @@ loop-again c =
     let h : b .loop .i < length w = omega arith in
     (omega arith, rw (add-one, take-suc w (b .loop .i) 0 h) (put-put (b .loop .inv .1) (c .before .before .put .ensures)))
 
--- src/lib.rt:22:1
 same-length : tie.Need-same-length Inv-loop μ-loop
 same-length c = put-length (c .before .loop .inv .1)
 
--- src/lib.rt:22:1
 returns : tie.Need-returns Inv-loop μ-loop
 returns c =
     let w = c .before .before .before .before .args .word .now in

@@ -2,7 +2,7 @@ use native.Mathlib.Omega.{arith}
 use mathlib.Core.Path.{ap}
 use mathlib.Core.Bool.{not}
 use Rattle.meaning.specs.Literals.{inputOn}
-use Rattle.pairing.specs.WordsLaws.{or-on}
+use Rattle.meaning.specs.BitLaws.{or-bit}
 use borrow.Author.Needs.{needs}
 use Rattle.literals.proofs.free.Statement.{statement}
 use Rattle.literals.proofs.free.Tie as tie
@@ -26,7 +26,7 @@ returns-4 : tie.Need-returns-4
 unfolding inputOn
 returns-4 c h k =
     let a = c .before .before .before .args in
-    rw (c .before .before .if1 .left) (ap not (or-on (a .p) (a .q) (a .n)))
+    rw (c .before .before .if1 .left) (ap not (or-bit (a .p) (a .q) (a .n)))
 
 pub free-spec : {M : Type 1} → statement M
 free-spec = tie.close (tie.spec returns returns-2 returns-3 cast-result shr-result returns-4)

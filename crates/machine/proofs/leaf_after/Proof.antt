@@ -4,7 +4,7 @@ use mathlib.Core.Path.{_∙_}
 use borrow.Author.Tests.{le-ltb}
 use Rattle.meaning.specs.Tables.{moveCount}
 use Rattle.tables.specs.Given.{move-count}
-use Rattle.paths.specs.FlagsLaws.{walk-active}
+use Rattle.paths.specs.WalkLaws.{walk-active}
 use Rattle.machine.proofs.leaf_after.Statement.{statement}
 use Rattle.machine.proofs.leaf_after.Tie as tie
 

@@ -1,9 +1,9 @@
 use native.Mathlib.Omega.{arith}
 use mathlib.Core.Path.{sym, subst}
 use Rattle.meaning.specs.RowsLaws.{getD-equal}
-use Rattle.paths.specs.Words.{Worded}
+use Rattle.pairing.specs.Words.{Worded}
 use Rattle.machine.specs.Held.{Made}
-use Rattle.machine.specs.StepLaws.{longest-made, rules-tree, worded}
+use Rattle.machine.specs.StepLaws.{longest-made, rules-tree}
 use borrow.Author.Needs.{needs}
 use Rattle.machine.proofs.run.Statement.{statement}
 use Rattle.machine.proofs.run.Tie as tie
@@ -58,13 +58,13 @@ returns c c' g R W E lm lt val p q =
     let links = c .before .before .before .before .before .before .before .before .before .before .before .before .before .before .before .before .before .before .before .make-links .last .1 .0 in
     let M : Made c' (a .runs .now) links asks (c .before .before .before .before .before .before .before .before .before .before .before .before .before .before .before .before .before .longest-of .result) = record {
       running = W;
-      linked = c .before .before .before .before .before .before .before .before .before .before .before .before .before .before .before .before .before .before .before .make-links .ensures c' (g .moves) R (omega arith) (getD-equal 0 768);
-      asked = c .before .before .before .before .before .before .before .before .before .before .before .before .before .before .before .before .before .before .before .before .before .before .before .make-asks .ensures c' (g .moves) R (E .asksRoom);
+      linked = c .before .before .before .before .before .before .before .before .before .before .before .before .before .before .before .before .before .before .before .make-links .ensures c' (g .lent .moves) R (omega arith) (getD-equal 0 768);
+      asked = c .before .before .before .before .before .before .before .before .before .before .before .before .before .before .before .before .before .before .before .before .before .before .before .make-asks .ensures c' (g .lent .moves) R (E .asksRoom);
       room = rw (c .before .before .before .before .before .before .before .before .before .before .before .before .before .before .before .before .before .before .before .before .before .before .before .make-asks .kept .1 .0) (E .asksRoom);
-      longest = longest-made c' R (a .presets .now) (c .before .before .before .before .before .before .before .before .before .before .before .before .before .before .before .before .before .longest-of .result) (a .chart .step) (g .presets) (g .step) (c .before .before .before .before .before .before .before .before .before .before .before .before .before .before .before .before .before .longest-of .ensures);
+      longest = longest-made c' R (a .presets .now) (c .before .before .before .before .before .before .before .before .before .before .before .before .before .before .before .before .before .longest-of .result) (a .chart .step) (g .lent .presets) (g .step) (c .before .before .before .before .before .before .before .before .before .before .before .before .before .before .before .before .before .longest-of .ensures);
     } in
-    c .before .before .before .before .before .before .before .before .run-made .ensures c' (g .step) (g .states) (g .moves) (g .presets) R M
-    (subst (λ ps. Worded c' ps shows) (sym (g .outputPairs)) (worded c' (a .output-pairs .now) shows (c .before .before .before .before .before .before .before .before .before .before .before .before .before .before .before .before .before .before .before .before .before .before .before .before .before .before .before .paired-words .ensures c' (g .states) (rules-tree c' R) (E .showsRoom) (E .noShows)))) lm lt val p q
+    c .before .before .before .before .before .before .before .before .run-made .ensures c' (g .step) (g .lent .states) (g .lent .moves) (g .lent .presets) R M
+    (subst (λ ps. Worded c' ps shows) (sym (g .lent .outputPairs)) (c .before .before .before .before .before .before .before .before .before .before .before .before .before .before .before .before .before .before .before .before .before .before .before .before .before .before .before .paired-words .ensures c' (g .lent .states) (rules-tree c' R) (E .showsRoom) (E .noShows))) lm lt val p q
 
 pub run-spec : {M : Type 1} → statement M
 run-spec =

@@ -7,8 +7,8 @@ use Rattle.meaning.specs.Tables.{Tables, stateCount}
 use Rattle.meaning.specs.Rules.{Rules}
 use Rattle.meaning.specs.Machine.{activeLeaf, step, seenAt, trace, after, Valid}
 use Rattle.meaning.specs.MachineLaws.{valid-sound, step-valid, after-valid}
-use Rattle.paths.specs.Words.{Worded}
-use Rattle.paths.specs.FlagsLaws.{walk-active, leaf-known}
+use Rattle.pairing.specs.Words.{Worded}
+use Rattle.paths.specs.WalkLaws.{walk-active, leaf-known}
 use Rattle.machine.specs.Held.{Made, Scanned, held}
 use Rattle.machine.specs.StepLaws.{ran-shown}
 use Rattle.machine.proofs.run_made.Statement.{statement}

@@ -9,8 +9,8 @@ use Rattle.meaning.specs.Hierarchy.{paired}
 use Rattle.meaning.specs.Literals.{inputOn}
 use Rattle.meaning.specs.Machine.{activeLeaf, step}
 use Rattle.meaning.specs.MachineLaws.{Sound, valid-sound, step-valid}
-use Rattle.paths.specs.FlagsLaws.{leaf-known}
-use Rattle.paths.specs.WordsLaws.{and-bit}
+use Rattle.paths.specs.WalkLaws.{leaf-known}
+use Rattle.meaning.specs.BitLaws.{and-bit}
 use Rattle.machine.specs.Held.{held}
 use Rattle.timers.specs.Times.{grown}
 use Rattle.machine.specs.StepLaws.{chosen-on, step-held}

@@ -1,39 +1,22 @@
 use borrow.Author.Needs.{needs}
 use native.Mathlib.Omega.{arith}
-use mathlib.Core.Path.{sym}
-use lib.Seq.{set-out}
 use Rattle.moving.proofs.remember.Statement.{statement}
 use Rattle.moving.proofs.remember.Tie as tie
 
 returns : tie.Need-returns
 returns c h = absurd (omega arith)
 
-cast-memory : tie.Need-cast-memory
-cast-memory c = search needs
+cast-put-number : tie.Need-cast-put-number
+cast-put-number c = search needs
 
-mul-memory : tie.Need-mul-memory
-mul-memory c = search needs
-
-slice-write-memory : tie.Need-slice-write-memory
-slice-write-memory c = search needs
+put-number-requires : tie.Need-put-number-requires
+put-number-requires c κs = search needs
 
 same-length : tie.Need-same-length
 same-length c = search needs
 
 returns-2 : tie.Need-returns-2
-returns-2 c = search needs
-
-returns-3 : tie.Need-returns-3
-returns-3 c h = sym (set-out (c .before .before .args .memory .now) (c .before .before .args .a) (c .before .before .args .s) (omega arith))
+returns-2 c h = c .before .before .put-number .ensures
 
 pub remember-spec : {M : Type 1} → statement M
-remember-spec =
-    tie.close
-    (tie.spec
-    returns
-    cast-memory
-    mul-memory
-    slice-write-memory
-    same-length
-    returns-2
-    returns-3)
+remember-spec = tie.close (tie.spec returns cast-put-number put-number-requires same-length returns-2)

@@ -14,209 +14,159 @@ use Rattle.spelling.proofs.put_named.Reads as put-named-reads
 use Rattle.lines.proofs.put_part.Reads as put-part-reads
 use Rattle.spelling.proofs.put_qx.Reads as put-qx-reads
 
--- src/lib.rt:40:42
 slice-aggregate-put-part : tie.Need-slice-aggregate-put-part
 slice-aggregate-put-part c = search needs
 
--- src/lib.rt:40:17
 put-part-requires : tie.Need-put-part-requires
 put-part-requires c κs = search needs
 
--- src/lib.rt:41:42
 slice-aggregate-put-part-2 : tie.Need-slice-aggregate-put-part-2
 slice-aggregate-put-part-2 c = search needs
 
--- src/lib.rt:41:17
 put-part-requires-2 : tie.Need-put-part-requires-2
 put-part-requires-2 c κs = search needs
 
--- src/lib.rt:33:43
 cast-put-mx : tie.Need-cast-put-mx
 cast-put-mx c = search needs
 
--- src/lib.rt:33:20
 put-mx-requires : tie.Need-put-mx-requires
 put-mx-requires c κs = search needs
 
--- src/lib.rt:34:46
 sub-put-ix : tie.Need-sub-put-ix
 sub-put-ix c = search needs
 
--- src/lib.rt:34:45
 cast-put-ix : tie.Need-cast-put-ix
 cast-put-ix c = search needs
 
--- src/lib.rt:34:22
 put-ix-requires : tie.Need-put-ix-requires
 put-ix-requires c κs = search needs
 
--- src/lib.rt:35:46
 sub-put-qx : tie.Need-sub-put-qx
 sub-put-qx c = search needs
 
--- src/lib.rt:35:45
 cast-put-qx : tie.Need-cast-put-qx
 cast-put-qx c = search needs
 
--- src/lib.rt:35:22
 put-qx-requires : tie.Need-put-qx-requires
 put-qx-requires c κs = search needs
 
--- src/lib.rt:36:50
 sub-put-named : tie.Need-sub-put-named
 sub-put-named c = search needs
 
--- src/lib.rt:36:49
 cast-put-named : tie.Need-cast-put-named
 cast-put-named c = search needs
 
--- src/lib.rt:36:67
 slice-aggregate-put-named : tie.Need-slice-aggregate-put-named
 slice-aggregate-put-named c = search needs
 
--- src/lib.rt:36:23
 put-named-requires : tie.Need-put-named-requires
 put-named-requires c κs = search needs
 
--- src/lib.rt:37:51
 sub-put-named-2 : tie.Need-sub-put-named-2
 sub-put-named-2 c = search needs
 
--- src/lib.rt:37:50
 cast-put-named-2 : tie.Need-cast-put-named-2
 cast-put-named-2 c = search needs
 
--- src/lib.rt:37:69
 slice-aggregate-put-named-2 : tie.Need-slice-aggregate-put-named-2
 slice-aggregate-put-named-2 c = search needs
 
--- src/lib.rt:37:24
 put-named-requires-2 : tie.Need-put-named-requires-2
 put-named-requires-2 c κs = search needs
 
--- src/lib.rt:38:51
 sub-put-named-3 : tie.Need-sub-put-named-3
 sub-put-named-3 c = search needs
 
--- src/lib.rt:38:50
 cast-put-named-3 : tie.Need-cast-put-named-3
 cast-put-named-3 c = search needs
 
--- src/lib.rt:38:69
 slice-aggregate-put-named-3 : tie.Need-slice-aggregate-put-named-3
 slice-aggregate-put-named-3 c = search needs
 
--- src/lib.rt:38:24
 put-named-requires-3 : tie.Need-put-named-requires-3
 put-named-requires-3 c κs = search needs
 
--- src/lib.rt:39:51
 sub-put-named-4 : tie.Need-sub-put-named-4
 sub-put-named-4 c = search needs
 
--- src/lib.rt:39:50
 cast-put-named-4 : tie.Need-cast-put-named-4
 cast-put-named-4 c = search needs
 
--- src/lib.rt:39:69
 slice-aggregate-put-named-4 : tie.Need-slice-aggregate-put-named-4
 slice-aggregate-put-named-4 c = search needs
 
--- src/lib.rt:39:24
 put-named-requires-4 : tie.Need-put-named-requires-4
 put-named-requires-4 c κs = search needs
 
--- src/lib.rt:42:43
 slice-aggregate-put-named-5 : tie.Need-slice-aggregate-put-named-5
 slice-aggregate-put-named-5 c = search needs
 
--- src/lib.rt:42:14
 put-named-requires-5 : tie.Need-put-named-requires-5
 put-named-requires-5 c κs = search needs
 
--- src/lib.rt:29:1
 same-length : tie.Need-same-length
 same-length c = search needs
 
--- src/lib.rt:29:1
 returns : tie.Need-returns
 unfolding operandOf operandText line
 returns c = rw (c .before .before .before .before .before .match .keys1) (c .before .before .put-part .ensures)
 
--- src/lib.rt:29:1
 same-length-2 : tie.Need-same-length-2
 same-length-2 c = search needs
 
--- src/lib.rt:29:1
 returns-2 : tie.Need-returns-2
 unfolding operandOf operandText line
 returns-2 c = rw (c .before .before .before .before .before .match .keys2) (c .before .before .put-part2 .ensures)
 
--- src/lib.rt:29:1
 same-length-3 : tie.Need-same-length-3
 same-length-3 c = search needs
 
--- src/lib.rt:29:1
 returns-3 : tie.Need-returns-3
 returns-3 c = rw (operand-mx (c .before .before .before .before .before .before .before .args .m) (omega arith)) (c .before .before .put-mx .ensures)
 
--- src/lib.rt:29:1
 same-length-4 : tie.Need-same-length-4
 same-length-4 c = search needs
 
--- src/lib.rt:29:1
 returns-4 : tie.Need-returns-4
 returns-4 c = rw (operand-ix (c .before .before .before .before .before .before .before .before .args .m) (omega arith) (omega arith)) (c .before .before .put-ix .ensures)
 
--- src/lib.rt:29:1
 same-length-5 : tie.Need-same-length-5
 same-length-5 c = search needs
 
--- src/lib.rt:29:1
 returns-5 : tie.Need-returns-5
 returns-5 c = rw (operand-qx (c .before .before .before .before .before .before .before .before .before .args .m) (omega arith) (omega arith)) (c .before .before .put-qx .ensures)
 
--- src/lib.rt:29:1
 same-length-6 : tie.Need-same-length-6
 same-length-6 c = search needs
 
--- src/lib.rt:29:1
 returns-6 : tie.Need-returns-6
 unfolding line operandText
 returns-6 c = rw (operand-timer-q (c .before .before .before .before .before .before .before .before .before .before .before .args .m) (omega arith) (omega arith)) (simp append-assoc (c .before .before .put-named .ensures))
 
--- src/lib.rt:29:1
 same-length-7 : tie.Need-same-length-7
 same-length-7 c = search needs
 
--- src/lib.rt:29:1
 returns-7 : tie.Need-returns-7
 unfolding line operandText
 returns-7 c = rw (operand-timer-in (c .before .before .before .before .before .before .before .before .before .before .before .before .args .m) (omega arith) (omega arith)) (simp append-assoc (c .before .before .put-named2 .ensures))
 
--- src/lib.rt:29:1
 same-length-8 : tie.Need-same-length-8
 same-length-8 c = search needs
 
--- src/lib.rt:29:1
 returns-8 : tie.Need-returns-8
 unfolding line operandText
 returns-8 c = rw (operand-timer-pt (c .before .before .before .before .before .before .before .before .before .before .before .before .before .args .m) (omega arith) (omega arith)) (simp append-assoc (c .before .before .put-named3 .ensures))
 
--- src/lib.rt:29:1
 same-length-9 : tie.Need-same-length-9
 same-length-9 c = search needs
 
--- src/lib.rt:29:1
 returns-9 : tie.Need-returns-9
 unfolding line operandText
 returns-9 c = rw (operand-timer (c .before .before .before .before .before .before .before .before .before .before .before .before .before .before .args .m) (omega arith) (omega arith)) (c .before .before .put-named4 .ensures)
 
--- src/lib.rt:29:1
 same-length-10 : tie.Need-same-length-10
 same-length-10 c = search needs
 
--- src/lib.rt:29:1
 returns-10 : tie.Need-returns-10
 unfolding line operandText
 returns-10 c = rw (operand-none (c .before .before .before .before .before .before .before .before .before .before .before .before .before .before .args .m) (omega arith)) (c .before .before .put-named5 .ensures)

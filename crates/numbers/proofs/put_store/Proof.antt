@@ -11,99 +11,76 @@ use Rattle.lines.proofs.put_part.Reads as put-part-reads
 use Rattle.spelling.proofs.put_time.Reads as put-time-reads
 use Rattle.numbers.proofs.put_operand.Reads as put-operand-reads
 
--- src/lib.rt:52:46
 slice-aggregate-put-part : tie.Need-slice-aggregate-put-part
 slice-aggregate-put-part c = search needs
 
--- src/lib.rt:52:17
 put-part-requires : tie.Need-put-part-requires
 put-part-requires c κs = search needs
 
--- src/lib.rt:53:13
 put-operand-requires : tie.Need-put-operand-requires
 put-operand-requires c κs = search needs
 
--- src/lib.rt:56:46
 slice-aggregate-put-part-2 : tie.Need-slice-aggregate-put-part-2
 slice-aggregate-put-part-2 c = search needs
 
--- src/lib.rt:56:17
 put-part-requires-2 : tie.Need-put-part-requires-2
 put-part-requires-2 c κs = search needs
 
--- src/lib.rt:57:13
 put-operand-requires-2 : tie.Need-put-operand-requires-2
 put-operand-requires-2 c κs = search needs
 
--- src/lib.rt:60:46
 slice-aggregate-put-part-3 : tie.Need-slice-aggregate-put-part-3
 slice-aggregate-put-part-3 c = search needs
 
--- src/lib.rt:60:17
 put-part-requires-3 : tie.Need-put-part-requires-3
 put-part-requires-3 c κs = search needs
 
--- src/lib.rt:61:13
 put-operand-requires-3 : tie.Need-put-operand-requires-3
 put-operand-requires-3 c κs = search needs
 
--- src/lib.rt:64:46
 slice-aggregate-put-part-4 : tie.Need-slice-aggregate-put-part-4
 slice-aggregate-put-part-4 c = search needs
 
--- src/lib.rt:64:17
 put-part-requires-4 : tie.Need-put-part-requires-4
 put-part-requires-4 c κs = search needs
 
--- src/lib.rt:65:13
 put-operand-requires-4 : tie.Need-put-operand-requires-4
 put-operand-requires-4 c κs = search needs
 
--- src/lib.rt:67:14
 put-time-requires : tie.Need-put-time-requires
 put-time-requires c κs = search needs
 
--- src/lib.rt:47:1
 same-length : tie.Need-same-length
 same-length c = search needs
 
--- src/lib.rt:47:1
 returns : tie.Need-returns
 unfolding storeOf operatorText line
 returns c = rw (c .before .before .before .before .before .before .before .before .before .match .keys1) (fit-fit (c .before .before .before .before .before .before .put-part .ensures) (c .before .before .put-operand .ensures))
 
--- src/lib.rt:47:1
 same-length-2 : tie.Need-same-length-2
 same-length-2 c = search needs
 
--- src/lib.rt:47:1
 returns-2 : tie.Need-returns-2
 unfolding storeOf operatorText line
 returns-2 c = rw (c .before .before .before .before .before .before .before .before .before .match .keys2) (fit-fit (c .before .before .before .before .before .before .put-part2 .ensures) (c .before .before .put-operand2 .ensures))
 
--- src/lib.rt:47:1
 same-length-3 : tie.Need-same-length-3
 same-length-3 c = search needs
 
--- src/lib.rt:47:1
 returns-3 : tie.Need-returns-3
 unfolding storeOf operatorText line
 returns-3 c = rw (c .before .before .before .before .before .before .before .before .before .match .keys3) (fit-fit (c .before .before .before .before .before .before .put-part3 .ensures) (c .before .before .put-operand3 .ensures))
 
--- src/lib.rt:47:1
 same-length-4 : tie.Need-same-length-4
 same-length-4 c = search needs
 
--- src/lib.rt:47:1
 returns-4 : tie.Need-returns-4
 unfolding storeOf operatorText line
 returns-4 c = rw (c .before .before .before .before .before .before .before .before .before .match .keys4) (fit-fit (c .before .before .before .before .before .before .put-part4 .ensures) (c .before .before .put-operand4 .ensures))
 
--- src/lib.rt:47:1
 same-length-5 : tie.Need-same-length-5
 same-length-5 c = search needs
 
--- src/lib.rt:47:1
 returns-5 : tie.Need-returns-5
 unfolding storeOf
 returns-5 c =

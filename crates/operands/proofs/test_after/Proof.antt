@@ -16,42 +16,33 @@ use Rattle.operands.proofs.test_after.Lts as lts
 use Rattle.decimals.proofs.same.Reads as same-reads
 use Rattle.operands.proofs.tested.Reads as tested-reads
 
--- src/lib.rt:104:9
 returns : tie.Need-returns
 returns c = let a = c .before .before .before .args in
     λ o f e. omega (arith, begins (a .head .now) (operandText o) (a .s .now) e .0)
 
--- src/lib.rt:107:14
 slice-aggregate-same : tie.Need-slice-aggregate-same
 slice-aggregate-same c = let a = c .before .before .before .before .args in
     sym (length-take-le (length (a .head .now)) (a .s .now) (omega arith))
 
--- src/lib.rt:107:9
 same-requires : tie.Need-same-requires
 same-requires c κs = search needs
 
--- src/lib.rt:108:9
 returns-2 : tie.Need-returns-2
 returns-2 c = let a = c .before .before .before .before .before .before .args in
     λ o f e. false≢true (sym (not-true (c .before .same .result) (c .if2 .taken)) ∙ c .before .same .ensures .1 (begins (a .head .now) (operandText o) (a .s .now) e .1))
 
--- src/lib.rt:110:12
 sub-tested : tie.Need-sub-tested
 sub-tested c = search needs
 
--- src/lib.rt:110:12
 part-tested-start : tie.Need-part-tested-start
 part-tested-start c = search needs
 
--- src/lib.rt:110:12
 part-tested-end : tie.Need-part-tested-end
 part-tested-end c = search needs
 
--- src/lib.rt:110:5
 tested-requires : tie.Need-tested-requires
 tested-requires c κs = search needs
 
--- src/lib.rt:100:1
 returns-3 : tie.Need-returns-3
 returns-3 c = let a = c .before .before .before .before .before .before .before .before .args in
     names-part (a .head .now) (a .s .now) (testable 32) (c .tested .result) (c .before .before .before .same .ensures .0 (not-false _ (c .before .before .if2 .left)))

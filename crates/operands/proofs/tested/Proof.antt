@@ -7,88 +7,69 @@ use Rattle.operands.proofs.tested.Reads as reads
 use Rattle.operands.proofs.tested.Lts as lts
 use Rattle.decimals.proofs.numbered.Reads as numbered-reads
 
--- src/lib.rt:116:40
 slice-aggregate-numbered : tie.Need-slice-aggregate-numbered
 slice-aggregate-numbered c = search needs
 
--- src/lib.rt:116:48
 slice-aggregate-numbered-2 : tie.Need-slice-aggregate-numbered-2
 slice-aggregate-numbered-2 c = search needs
 
--- src/lib.rt:116:28
 numbered-requires : tie.Need-numbered-requires
 numbered-requires c κs = search needs
 
--- src/lib.rt:116:23
 enum-known-n : tie.Need-enum-known-n
 enum-known-n c = search needs
 
--- src/lib.rt:117:38
 cast-t16 : tie.Need-cast-t16
 cast-t16 c = omega (arith, (rw (c .before .n .given .1) at (c .before .before .before .numbered .ensures)) .1)
 
--- src/lib.rt:117:9
 returns : tie.Need-returns
 returns c = tests-mx (rw (c .before .n .given .1) at (c .before .before .before .numbered .ensures))
 
 enum-told : tie.Need-enum-told
 enum-told c = search needs
 
--- src/lib.rt:119:40
 slice-aggregate-numbered-3 : tie.Need-slice-aggregate-numbered-3
 slice-aggregate-numbered-3 c = search needs
 
--- src/lib.rt:119:48
 slice-aggregate-numbered-4 : tie.Need-slice-aggregate-numbered-4
 slice-aggregate-numbered-4 c = search needs
 
--- src/lib.rt:119:28
 numbered-requires-2 : tie.Need-numbered-requires-2
 numbered-requires-2 c κs = search needs
 
--- src/lib.rt:119:23
 enum-known-n-2 : tie.Need-enum-known-n-2
 enum-known-n-2 c = search needs
 
--- src/lib.rt:120:38
 cast-t23 : tie.Need-cast-t23
 cast-t23 c = omega (arith, (rw (c .before .n2 .given .1) at (c .before .before .before .numbered2 .ensures)) .1)
 
--- src/lib.rt:120:9
 returns-2 : tie.Need-returns-2
 returns-2 c = tests-ix (rw (c .before .n2 .given .1) at (c .before .before .before .numbered2 .ensures))
 
 enum-told-2 : tie.Need-enum-told-2
 enum-told-2 c = search needs
 
--- src/lib.rt:122:40
 slice-aggregate-numbered-5 : tie.Need-slice-aggregate-numbered-5
 slice-aggregate-numbered-5 c = search needs
 
--- src/lib.rt:122:46
 slice-aggregate-numbered-6 : tie.Need-slice-aggregate-numbered-6
 slice-aggregate-numbered-6 c = search needs
 
--- src/lib.rt:122:28
 numbered-requires-3 : tie.Need-numbered-requires-3
 numbered-requires-3 c κs = search needs
 
--- src/lib.rt:122:23
 enum-known-n-3 : tie.Need-enum-known-n-3
 enum-known-n-3 c = search needs
 
--- src/lib.rt:123:42
 cast-t30 : tie.Need-cast-t30
 cast-t30 c = omega (arith, (rw (c .before .n3 .given .1) at (c .before .before .before .numbered3 .ensures)) .1)
 
--- src/lib.rt:123:9
 returns-3 : tie.Need-returns-3
 returns-3 c = tests-q (rw (c .before .n3 .given .1) at (c .before .before .before .numbered3 .ensures))
 
 enum-told-3 : tie.Need-enum-told-3
 enum-told-3 c = search needs
 
--- src/lib.rt:113:1
 returns-4 : tie.Need-returns-4
 returns-4 c = let b = c .before .before .before .before .before in
     let a = b .before .before .before .before .before in

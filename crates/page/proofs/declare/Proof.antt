@@ -10,28 +10,22 @@ use Rattle.page.proofs.is_next.Reads as is-next-reads
 use Rattle.page.proofs.is_on.Reads as is-on-reads
 use Rattle.page.proofs.turned.Reads as turned-reads
 
--- src/lib.rt:84:8
 is-next-requires : tie.Need-is-next-requires
 is-next-requires c κs = search needs
 
--- src/lib.rt:91:24
 is-on-requires : tie.Need-is-on-requires
 is-on-requires c κs = search needs
 
--- src/lib.rt:91:9
 gone-on-requires : tie.Need-gone-on-requires
 gone-on-requires c κs = search needs
 
--- src/lib.rt:91:9
 returns : tie.Need-returns
 returns c = let a = c .before .before .before .before .before .args in
     c .gone-on .ensures ∙ turn-block (a .p) (c .before .is-on .result) (a .n) (sym (c .before .before .before .before .is-next .ensures) ∙ c .before .before .before .if1 .taken) (c .before .is-on .ensures)
 
--- src/lib.rt:93:5
 turned-requires : tie.Need-turned-requires
 turned-requires c κs = search needs
 
--- src/lib.rt:81:1
 returns-2 : tie.Need-returns-2
 returns-2 c = let a = c .before .before .before .args in
     c .turned .ensures ∙ broken-block (a .p) (a .n) (sym (c .before .before .is-next .ensures) ∙ c .before .if1 .left)

@@ -10,32 +10,25 @@ use Rattle.page.proofs.is_running.Reads as is-running-reads
 use Rattle.page.proofs.turned.Reads as turned-reads
 use Rattle.phase.proofs.may_end.Reads as may-end-reads
 
--- src/lib.rt:131:8
 may-end-requires : tie.Need-may-end-requires
 may-end-requires c κs = search needs
 
--- src/lib.rt:132:24
 is-running-requires : tie.Need-is-running-requires
 is-running-requires c κs = search needs
 
--- src/lib.rt:132:39
 turned-requires : tie.Need-turned-requires
 turned-requires c κs = search needs
 
--- src/lib.rt:132:9
 gone-on-requires : tie.Need-gone-on-requires
 gone-on-requires c κs = search needs
 
--- src/lib.rt:132:9
 returns : tie.Need-returns
 returns c = let a = c .before .before .before .before .before .args in
     c .gone-on .ensures ∙ turn-end (a .p) (c .before .before .is-running .result) (c .before .turned .result) (c .before .before .is-running .ensures) (sym (c .before .before .before .before .may-end .ensures) ∙ c .before .before .before .if1 .taken) (c .before .turned .ensures)
 
--- src/lib.rt:134:5
 turned-requires-2 : tie.Need-turned-requires-2
 turned-requires-2 c κs = search needs
 
--- src/lib.rt:128:1
 returns-2 : tie.Need-returns-2
 returns-2 c = c .turned2 .ensures ∙ broken-end (c .before .before .before .args .p) (sym (c .before .before .may-end .ensures) ∙ c .before .if1 .left)
 

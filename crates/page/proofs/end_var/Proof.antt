@@ -11,27 +11,21 @@ use Rattle.page.proofs.is_on.Reads as is-on-reads
 use Rattle.page.proofs.turned.Reads as turned-reads
 use Rattle.phase.proofs.begin.Reads as begin-reads
 
--- src/lib.rt:102:9
 turned-requires : tie.Need-turned-requires
 turned-requires c κs = search needs
 
--- src/lib.rt:102:9
 returns : tie.Need-returns
 returns c = c .turned .ensures ∙ broken-end-var (c .before .before .args .p) (c .before .if1 .taken)
 
--- src/lib.rt:104:9
 begin-requires : tie.Need-begin-requires
 begin-requires c κs = search needs
 
--- src/lib.rt:110:13
 is-on-requires : tie.Need-is-on-requires
 is-on-requires c κs = search needs
 
--- src/lib.rt:110:5
 gone-on-requires : tie.Need-gone-on-requires
 gone-on-requires c κs = search needs
 
--- src/lib.rt:97:1
 returns-2 : tie.Need-returns-2
 returns-2 c = c .gone-on .ensures ∙ turn-end-var (c .before .before .before .before .args .p) (c .before .is-on .result) (c .before .before .begin .result) (omega arith) (c .before .is-on .ensures) (c .before .before .begin .ensures)
 

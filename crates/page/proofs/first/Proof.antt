@@ -6,11 +6,9 @@ use Rattle.page.proofs.first.Reads as reads
 use Rattle.page.proofs.first.Lts as lts
 use Rattle.phase.proofs.begin.Reads as begin-reads
 
--- src/lib.rt:141:9
 begin-requires : tie.Need-begin-requires
 begin-requires c κs = search needs
 
--- src/lib.rt:138:1
 returns : tie.Need-returns
 unfolding firstPage
 returns c = rw (c .begin .ensures)

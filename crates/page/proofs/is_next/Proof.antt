@@ -11,20 +11,16 @@ use Rattle.page.proofs.is_next.Tie as tie
 use Rattle.page.proofs.is_next.Reads as reads
 use Rattle.page.proofs.is_next.Lts as lts
 
--- src/lib.rt:73:9
 returns : tie.Need-returns
 returns c = rw (lt-leb (c .before .args .n) 32 (c .if1 .taken), and-false)
 
--- src/lib.rt:76:9
 returns-2 : tie.Need-returns-2
 returns-2 c = let a = c .before .before .before .args in
     rw (ne-eqb (a .n) (suc (a .p .blocks)) (λ e. omega arith))
 
--- src/lib.rt:78:17
 add-result : tie.Need-add-result
 add-result c = search needs
 
--- src/lib.rt:69:1
 returns-3 : tie.Need-returns-3
 returns-3 c = let a = c .before .before .before .before .args in
     let e : a .p .blocks + 1 ≡ suc (a .p .blocks) = omega arith in

@@ -5,15 +5,12 @@ use Rattle.page.proofs.is_on.Reads as reads
 use Rattle.page.proofs.is_on.Lts as lts
 use Rattle.page.proofs.stage_number.Reads as stage-number-reads
 
--- src/lib.rt:34:5
 stage-number-requires : tie.Need-stage-number-requires
 stage-number-requires c κs = search needs
 
--- src/lib.rt:34:24
 stage-number-requires-2 : tie.Need-stage-number-requires-2
 stage-number-requires-2 c κs = search needs
 
--- src/lib.rt:30:1
 returns : tie.Need-returns
 returns c = rw (c .before .stage-number .ensures, c .stage-number2 .ensures)
 

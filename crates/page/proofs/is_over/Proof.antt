@@ -6,11 +6,9 @@ use Rattle.page.proofs.is_over.Reads as reads
 use Rattle.page.proofs.is_over.Lts as lts
 use Rattle.page.proofs.is_on.Reads as is-on-reads
 
--- src/lib.rt:178:5
 is-on-requires : tie.Need-is-on-requires
 is-on-requires c κs = search needs
 
--- src/lib.rt:175:1
 returns : tie.Need-returns
 unfolding over
 returns c = c .is-on .ensures

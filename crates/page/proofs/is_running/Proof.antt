@@ -5,19 +5,15 @@ use Rattle.page.proofs.is_running.Reads as reads
 use Rattle.page.proofs.is_running.Lts as lts
 use Rattle.page.proofs.is_on.Reads as is-on-reads
 
--- src/lib.rt:62:8
 is-on-requires : tie.Need-is-on-requires
 is-on-requires c κs = search needs
 
--- src/lib.rt:63:9
 returns : tie.Need-returns
 returns c = rw (← c .before .is-on .ensures, c .if1 .taken)
 
--- src/lib.rt:65:5
 is-on-requires-2 : tie.Need-is-on-requires-2
 is-on-requires-2 c κs = search needs
 
--- src/lib.rt:59:1
 returns-2 : tie.Need-returns-2
 returns-2 c = rw (← c .before .before .is-on .ensures, c .before .if1 .left) (c .is-on2 .ensures)
 

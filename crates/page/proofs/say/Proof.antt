@@ -11,32 +11,25 @@ use Rattle.page.proofs.turned.Reads as turned-reads
 use Rattle.phase.proofs.alive.Reads as alive-reads
 use Rattle.following.proofs.step.Reads as step-reads
 
--- src/lib.rt:116:9
 step-requires : tie.Need-step-requires
 step-requires c κs = search needs
 
--- src/lib.rt:122:8
 alive-requires : tie.Need-alive-requires
 alive-requires c κs = search needs
 
--- src/lib.rt:123:24
 is-running-requires : tie.Need-is-running-requires
 is-running-requires c κs = search needs
 
--- src/lib.rt:123:9
 gone-on-requires : tie.Need-gone-on-requires
 gone-on-requires c κs = search needs
 
--- src/lib.rt:123:9
 returns : tie.Need-returns
 returns c = let a = c .before .before .before .before .before .args in
     c .gone-on .ensures ∙ turn-says (a .p) (a .i) (c .before .before .before .before .step .result) (c .before .before .before .before .step .ensures) (c .before .is-running .result) (sym (c .before .before .before .alive .ensures) ∙ c .before .before .if1 .taken) (c .before .is-running .ensures)
 
--- src/lib.rt:125:5
 turned-requires : tie.Need-turned-requires
 turned-requires c κs = search needs
 
--- src/lib.rt:113:1
 returns-2 : tie.Need-returns-2
 returns-2 c = let a = c .before .before .before .before .args in
     c .turned .ensures ∙ broken-says (a .p) (a .i) (c .before .before .before .step .result) (c .before .before .before .step .ensures) (sym (c .before .before .alive .ensures) ∙ c .before .if1 .left)

@@ -6,16 +6,13 @@ use Rattle.page.proofs.stands.Reads as reads
 use Rattle.page.proofs.stands.Lts as lts
 use Rattle.page.proofs.is_on.Reads as is-on-reads
 
--- src/lib.rt:168:8
 is-on-requires : tie.Need-is-on-requires
 is-on-requires c κs = search needs
 
--- src/lib.rt:169:9
 returns : tie.Need-returns
 unfolding standing
 returns c = rw (← c .before .is-on .ensures, c .if1 .taken)
 
--- src/lib.rt:165:1
 returns-2 : tie.Need-returns-2
 unfolding standing
 returns-2 c = rw (← c .before .is-on .ensures, c .if1 .left)

@@ -14,105 +14,80 @@ use Rattle.page.proofs.is_on.Reads as is-on-reads
 use Rattle.page.proofs.say.Reads as say-reads
 use Rattle.page.proofs.turned.Reads as turned-reads
 
--- src/lib.rt:154:39
 enum-told : tie.Need-enum-told
 enum-told c = search needs
 
--- src/lib.rt:154:33
 is-on-requires : tie.Need-is-on-requires
 is-on-requires c κs = search needs
 
--- src/lib.rt:154:57
 turned-requires : tie.Need-turned-requires
 turned-requires c κs = search needs
 
--- src/lib.rt:154:25
 gone-on-requires : tie.Need-gone-on-requires
 gone-on-requires c κs = search needs
 
--- src/lib.rt:155:36
 enum-told-2 : tie.Need-enum-told-2
 enum-told-2 c = search needs
 
--- src/lib.rt:155:30
 is-on-requires-2 : tie.Need-is-on-requires-2
 is-on-requires-2 c κs = search needs
 
--- src/lib.rt:155:55
 turned-requires-2 : tie.Need-turned-requires-2
 turned-requires-2 c κs = search needs
 
--- src/lib.rt:155:22
 gone-on-requires-2 : tie.Need-gone-on-requires-2
 gone-on-requires-2 c κs = search needs
 
--- src/lib.rt:156:21
 enum-known-l : tie.Need-enum-known-l
 enum-known-l c = search needs
 
--- src/lib.rt:156:27
 declare-requires : tie.Need-declare-requires
 declare-requires c κs = search needs
 
--- src/lib.rt:157:25
 enum-told-3 : tie.Need-enum-told-3
 enum-told-3 c = search needs
 
--- src/lib.rt:157:25
 end-var-requires : tie.Need-end-var-requires
 end-var-requires c κs = search needs
 
--- src/lib.rt:158:20
 enum-known-l-2 : tie.Need-enum-known-l-2
 enum-known-l-2 c = search needs
 
--- src/lib.rt:158:26
 say-requires : tie.Need-say-requires
 say-requires c κs = search needs
 
--- src/lib.rt:159:29
 enum-told-4 : tie.Need-enum-told-4
 enum-told-4 c = search needs
 
--- src/lib.rt:159:29
 end-requires : tie.Need-end-requires
 end-requires c κs = search needs
 
--- src/lib.rt:160:33
 enum-told-5 : tie.Need-enum-told-5
 enum-told-5 c = search needs
 
--- src/lib.rt:160:26
 turned-requires-3 : tie.Need-turned-requires-3
 turned-requires-3 c κs = search needs
 
--- src/lib.rt:150:1
 returns : tie.Need-returns
 returns c = let a = c .before .before .before .before .before .args in
     rw (c .before .before .before .enum-told .given .1) (c .gone-on .ensures ∙ turn-header (a .p) (c .before .before .is-on .result) (c .before .turned .result) (c .before .before .is-on .ensures) (c .before .turned .ensures))
 
--- src/lib.rt:150:1
 returns-2 : tie.Need-returns-2
 returns-2 c = let a = c .before .before .before .before .before .args in
     rw (c .before .before .before .enum-told2 .given .1) (c .gone-on2 .ensures ∙ turn-var (a .p) (c .before .before .is-on2 .result) (c .before .turned2 .result) (c .before .before .is-on2 .ensures) (c .before .turned2 .ensures))
 
--- src/lib.rt:150:1
 returns-3 : tie.Need-returns-3
 returns-3 c = rw (c .before .before .l .given .1) (c .declare .ensures)
 
--- src/lib.rt:150:1
 returns-4 : tie.Need-returns-4
 returns-4 c = rw (c .before .enum-told3 .given .1) (c .end-var .ensures)
 
--- src/lib.rt:150:1
 returns-5 : tie.Need-returns-5
 returns-5 c = rw (c .before .before .l2 .given .1) (c .say .ensures)
 
--- src/lib.rt:150:1
 returns-6 : tie.Need-returns-6
 returns-6 c = rw (c .before .enum-told4 .given .1) (c .end .ensures)
 
--- src/lib.rt:150:1
 returns-7 : tie.Need-returns-7
 unfolding turn
 returns-7 c = rw (c .before .enum-told5 .given .1) (c .turned3 .ensures)

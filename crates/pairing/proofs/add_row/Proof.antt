@@ -11,60 +11,48 @@ use Rattle.pairing.proofs.with.Reads as with-reads
 use Rattle.tables.proofs.pair_number.Reads as pair-number-reads
 use Rattle.tables.proofs.pair_state.Reads as pair-state-reads
 
--- src/lib.rt:25:9
 pair-number-requires : tie.Need-pair-number-requires
 pair-number-requires c κs = search needs
 
--- src/lib.rt:26:9
 pair-state-requires : tie.Need-pair-state-requires
 pair-state-requires c κs = search needs
 
--- src/lib.rt:28:9
 returns : tie.Need-returns
 returns c n l h k g =
     let a = c .before .before .before .before .before .args in
     let e = c .before .before .pair-number .ensures in
     row-other (a .pairs .now) (inputOn (getD (a .words .now) l 0) n) n l (a .i) (λ f q. omega (arith, c .if1 .taken, e, f, h))
 
--- src/lib.rt:31:9
 returns-2 : tie.Need-returns-2
 returns-2 c n l h k g =
     let a = c .before .before .before .before .before .before .args in
     let e = c .before .before .before .pair-number .ensures in
     row-other (a .pairs .now) (inputOn (getD (a .words .now) l 0) n) n l (a .i) (λ f q. omega (arith, c .if2 .taken, e, f, k))
 
--- src/lib.rt:34:9
 returns-3 : tie.Need-returns-3
 returns-3 c n l h k g =
     let a = c .before .before .before .before .before .before .before .args in
     let e = c .before .before .before .pair-state .ensures in
     row-other (a .pairs .now) (inputOn (getD (a .words .now) l 0) n) n l (a .i) (λ q f. omega (arith, c .if3 .taken, e, f, g))
 
--- src/lib.rt:36:21
 mul-with : tie.Need-mul-with
 mul-with c = search needs
 
--- src/lib.rt:36:21
 slice-read-with : tie.Need-slice-read-with
 slice-read-with c = search needs
 
--- src/lib.rt:36:16
 with-requires : tie.Need-with-requires
 with-requires c κs = search needs
 
--- src/lib.rt:36:5
 mul-words : tie.Need-mul-words
 mul-words c = search needs
 
--- src/lib.rt:36:5
 slice-write-words : tie.Need-slice-write-words
 slice-write-words c = search needs
 
--- src/lib.rt:22:1
 same-length : tie.Need-same-length
 same-length c = search needs
 
--- src/lib.rt:22:1
 returns-4 : tie.Need-returns-4
 returns-4 c n l h k g =
     let a = c .before .before .before .before .before .before .before .before .before .args in

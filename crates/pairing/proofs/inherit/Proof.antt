@@ -6,47 +6,36 @@ use Rattle.pairing.proofs.inherit.Reads as reads
 use Rattle.pairing.proofs.inherit.Lts as lts
 use Rattle.tables.proofs.super_state.Reads as super-state-reads
 
--- src/lib.rt:57:9
 super-state-requires : tie.Need-super-state-requires
 super-state-requires c κs = search needs
 
--- src/lib.rt:59:9
 returns : tie.Need-returns
 returns c c' e h k = absurd (omega (arith, c .if1 .taken, c .before .super-state .ensures c' e))
 
--- src/lib.rt:62:9
 returns-2 : tie.Need-returns-2
 returns-2 c c' e h k = absurd (omega (arith, c .if2 .taken))
 
--- src/lib.rt:64:16
 mul-words : tie.Need-mul-words
 mul-words c = search needs
 
--- src/lib.rt:64:16
 slice-read-words : tie.Need-slice-read-words
 slice-read-words c = search needs
 
--- src/lib.rt:64:27
 mul-words-2 : tie.Need-mul-words-2
 mul-words-2 c = search needs
 
--- src/lib.rt:64:27
 slice-read-words-2 : tie.Need-slice-read-words-2
 slice-read-words-2 c = search needs
 
--- src/lib.rt:64:5
 mul-words-3 : tie.Need-mul-words-3
 mul-words-3 c = search needs
 
--- src/lib.rt:64:5
 slice-write-words : tie.Need-slice-write-words
 slice-write-words c = search needs
 
--- src/lib.rt:53:1
 same-length : tie.Need-same-length
 same-length c = search needs
 
--- src/lib.rt:53:1
 returns-3 : tie.Need-returns-3
 returns-3 c c' e h k = rw (c .before .before .before .before .super-state .ensures c' e)
 

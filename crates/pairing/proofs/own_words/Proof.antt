@@ -8,7 +8,7 @@ use Rattle.meaning.specs.RowsLaws.{some-more}
 use Rattle.meaning.specs.Tables.{pairCount}
 use Rattle.meaning.specs.Literals.{inputOn}
 use Rattle.pairing.specs.Words.{rowAt, Clear}
-use Rattle.pairing.specs.WordsLaws.{zero-on}
+use Rattle.meaning.specs.BitLaws.{no-bit}
 use Rattle.pairing.proofs.own_words.Statement.{statement}
 use Rattle.pairing.proofs.own_words.Tie as tie
 
@@ -21,7 +21,7 @@ abbrev μ-loop : tie.MeasureT-loop
 
 loop-holds : tie.Need-loop-holds Inv-loop μ-loop
 unfolding some
-loop-holds c = (omega arith, refl, λ z n l h k g. ap (λ w. inputOn w n) (z l) ∙ zero-on n)
+loop-holds c = (omega arith, refl, λ z n l h k g. ap (λ w. inputOn w n) (z l) ∙ no-bit n)
 
 add-row-requires : tie.Need-add-row-requires Inv-loop μ-loop
 add-row-requires c κs = tt

@@ -1,6 +1,6 @@
 use native.Mathlib.Omega.{arith}
 use mathlib.Core.Path.{_≡_, refl, _∙_}
-use Prim.Native.Nat.{ℕ, _≤_, _<_, _-_, _/_}
+use Prim.Native.Nat.{suc, _≤_, _<_, _-_, _/_}
 use lib.ListN.{length}
 use Rattle.meaning.specs.Tables.{Tables, stateCount}
 use Rattle.tables.specs.Given.{state-count}
@@ -49,11 +49,11 @@ same-length : tie.Need-same-length Inv-loop μ-loop
 same-length c = c .before .loop .inv .1 ∙ c .before .before .before .before .own-words .kept .1 .0
 
 returns : tie.Need-returns Inv-loop μ-loop
-returns c c' e t m z n l h k g =
+returns c c' e t m z l n g k =
     let b = c .before .loop in
     let f = c .before .before .before .before .own-words in
     let d = state-count c' _ e in
-    b .inv .2 c' e t (omega (arith, f .kept .1 .0, m)) (f .ensures z) .0 n l h k (omega arith) g
+    b .inv .2 c' e t (omega (arith, f .kept .1 .0, m)) (f .ensures z) .0 (suc n) l (omega arith) (omega arith) (omega arith) g
 
 pub paired-words-spec : {M : Type 1} → statement M
 paired-words-spec =

@@ -1,7 +1,7 @@
 use borrow.Author.Needs.{needs}
 use Rattle.passing.proofs.one_more.Statement.{statement}
 use Rattle.passing.proofs.one_more.Tie as tie
-use borrow.Author.Tests.{lt-ltb, le-ltb, le-leb, lt-leb, eq-eqb, ne-eqb}
+use borrow.Author.Tests.{lt-ltb, le-ltb}
 
 add-result : tie.Need-add-result
 add-result c = search needs

@@ -3,7 +3,7 @@ use mathlib.Core.Path.{_≡_, refl, sym, _∙_}
 use Prim.Native.Nat.{suc, _≤_, _-_, _+_}
 use borrow.Author.Tests.{eq-eqb, ne-eqb}
 use Rattle.meaning.specs.Machine.{remembered}
-use Rattle.paths.specs.Flags.{walk}
+use Rattle.paths.specs.Walk.{walk}
 use Rattle.paths.proofs.active_leaf.Statement.{statement}
 use Rattle.paths.proofs.active_leaf.Tie as tie
 

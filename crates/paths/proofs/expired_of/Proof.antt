@@ -9,7 +9,7 @@ use native.Mathlib.Decide.{ℕ-discrete}
 use Rattle.meaning.specs.RowsLaws.{same-test}
 use Rattle.meaning.specs.Literals.{inputOn}
 use Rattle.paths.specs.Words.{expiredAt}
-use Rattle.paths.specs.WordsLaws.{no-bit}
+use Rattle.meaning.specs.BitLaws.{no-bit}
 use Rattle.paths.proofs.expired_of.Statement.{statement}
 use Rattle.paths.proofs.expired_of.Tie as tie
 

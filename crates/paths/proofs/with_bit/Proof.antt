@@ -1,6 +1,6 @@
 use borrow.Author.Needs.{needs}
 use native.Mathlib.Omega.{arith}
-use Rattle.paths.specs.WordsLaws.{weight}
+use Rattle.meaning.specs.BitLaws.{weight}
 use Rattle.paths.proofs.with_bit.Statement.{statement}
 use Rattle.paths.proofs.with_bit.Tie as tie
 

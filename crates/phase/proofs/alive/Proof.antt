@@ -6,16 +6,13 @@ use Rattle.phase.proofs.alive.Reads as reads
 use Rattle.phase.proofs.alive.Lts as lts
 use Rattle.phase.proofs.is_at.Reads as is-at-reads
 
--- src/lib.rt:285:8
 is-at-requires : tie.Need-is-at-requires
 is-at-requires c κs = search needs
 
--- src/lib.rt:286:9
 returns : tie.Need-returns
 unfolding alive
 returns c = rw (← c .before .is-at .ensures, c .if1 .taken)
 
--- src/lib.rt:282:1
 returns-2 : tie.Need-returns-2
 unfolding alive
 returns-2 c = rw (← c .before .is-at .ensures, c .if1 .left)

@@ -10,46 +10,36 @@ use Rattle.phase.proofs.is_at.Reads as is-at-reads
 use Rattle.phase.proofs.naming.Reads as naming-reads
 use Rattle.phase.proofs.to.Reads as to-reads
 
--- src/lib.rt:124:9
 to-requires : tie.Need-to-requires
 to-requires c κs = search needs
 
--- src/lib.rt:124:9
 returns : tie.Need-returns
 unfolding also
 returns c = rw (lt-leb (c .before .before .before .args .n) (c .before .before .before .args .s .most) (c .before .if1 .taken), and-false) (c .to .ensures)
 
--- src/lib.rt:126:8
 is-at-requires : tie.Need-is-at-requires
 is-at-requires c κs = search needs
 
--- src/lib.rt:127:9
 naming-requires : tie.Need-naming-requires
 naming-requires c κs = search needs
 
--- src/lib.rt:127:9
 returns-2 : tie.Need-returns-2
 unfolding also
 returns-2 c = rw (← c .before .before .is-at .ensures, c .before .if2 .taken, le-leb (c .before .before .before .before .before .args .n) (c .before .before .before .before .before .args .s .most) (c .before .before .before .if1 .left)) (c .naming .ensures)
 
--- src/lib.rt:129:8
 is-at-requires-2 : tie.Need-is-at-requires-2
 is-at-requires-2 c κs = search needs
 
--- src/lib.rt:130:9
 naming-requires-2 : tie.Need-naming-requires-2
 naming-requires-2 c κs = search needs
 
--- src/lib.rt:130:9
 returns-3 : tie.Need-returns-3
 unfolding also
 returns-3 c = rw (← c .before .before .before .before .is-at .ensures, c .before .before .before .if2 .left, ← c .before .before .is-at2 .ensures, c .before .if3 .taken, le-leb (c .before .before .before .before .before .before .before .args .n) (c .before .before .before .before .before .before .before .args .s .most) (c .before .before .before .before .before .if1 .left)) (c .naming2 .ensures)
 
--- src/lib.rt:132:5
 to-requires-2 : tie.Need-to-requires-2
 to-requires-2 c κs = search needs
 
--- src/lib.rt:120:1
 returns-4 : tie.Need-returns-4
 unfolding also
 returns-4 c = rw (← c .before .before .before .before .is-at .ensures, c .before .before .before .if2 .left, ← c .before .before .is-at2 .ensures, c .before .if3 .left) (c .to2 .ensures)

@@ -5,7 +5,6 @@ use Rattle.phase.proofs.begin.Tie as tie
 use Rattle.phase.proofs.begin.Reads as reads
 use Rattle.phase.proofs.begin.Lts as lts
 
--- src/lib.rt:63:1
 returns : tie.Need-returns
 unfolding begin
 returns c = refl

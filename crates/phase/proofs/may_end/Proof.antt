@@ -8,25 +8,20 @@ use Rattle.phase.proofs.may_end.Reads as reads
 use Rattle.phase.proofs.may_end.Lts as lts
 use Rattle.phase.proofs.is_at.Reads as is-at-reads
 
--- src/lib.rt:296:9
 returns : tie.Need-returns
 unfolding mayEnd
 returns c = rw (lt-leb (c .before .before .args .s .named) (c .before .before .args .s .timers) (c .if1 .taken), and-false)
 
--- src/lib.rt:298:8
 is-at-requires : tie.Need-is-at-requires
 is-at-requires c κs = search needs
 
--- src/lib.rt:299:9
 returns-2 : tie.Need-returns-2
 unfolding mayEnd
 returns-2 c = rw (← c .before .is-at .ensures, c .if2 .taken, le-leb (c .before .before .before .before .args .s .named) (c .before .before .before .before .args .s .timers) (c .before .before .if1 .left))
 
--- src/lib.rt:301:5
 is-at-requires-2 : tie.Need-is-at-requires-2
 is-at-requires-2 c κs = search needs
 
--- src/lib.rt:292:1
 returns-3 : tie.Need-returns-3
 unfolding mayEnd
 returns-3 c = rw (← c .before .before .is-at .ensures, c .before .if2 .left, le-leb (c .before .before .before .before .before .args .s .named) (c .before .before .before .before .before .args .s .timers) (c .before .before .before .if1 .left), and-true) (c .is-at2 .ensures)

@@ -6,11 +6,9 @@ use Rattle.phase.proofs.naming.Tie as tie
 use Rattle.phase.proofs.naming.Reads as reads
 use Rattle.phase.proofs.naming.Lts as lts
 
--- src/lib.rt:52:9
 returns : tie.Need-returns
 returns c = let e : max (c .before .before .args .s .named) (c .before .before .args .n) ≡ c .before .before .args .n = omega arith in rw e
 
--- src/lib.rt:47:1
 returns-2 : tie.Need-returns-2
 returns-2 c = let e : max (c .before .before .args .s .named) (c .before .before .args .n) ≡ c .before .before .args .s .named = omega arith in rw e
 

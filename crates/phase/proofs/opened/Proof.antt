@@ -10,26 +10,21 @@ use Rattle.phase.proofs.opened.Lts as lts
 use Rattle.phase.proofs.is_at.Reads as is-at-reads
 use Rattle.phase.proofs.to.Reads as to-reads
 
--- src/lib.rt:139:8
 is-at-requires : tie.Need-is-at-requires
 is-at-requires c κs = search needs
 
--- src/lib.rt:140:9
 to-requires : tie.Need-to-requires
 to-requires c κs = search needs
 
--- src/lib.rt:140:9
 returns : tie.Need-returns
 unfolding opened
 returns c =
     let s = c .before .before .before .args .s in
     c .to .ensures ∙ sym (cond-true (at Body s) (to Opened s) (to Refused s) (sym (c .before .before .is-at .ensures) ∙ c .before .if1 .taken))
 
--- src/lib.rt:142:5
 to-requires-2 : tie.Need-to-requires-2
 to-requires-2 c κs = search needs
 
--- src/lib.rt:136:1
 returns-2 : tie.Need-returns-2
 unfolding opened
 returns-2 c =

@@ -10,46 +10,36 @@ use Rattle.phase.proofs.is_at.Reads as is-at-reads
 use Rattle.phase.proofs.settled.Reads as settled-reads
 use Rattle.phase.proofs.to.Reads as to-reads
 
--- src/lib.rt:171:9
 to-requires : tie.Need-to-requires
 to-requires c κs = search needs
 
--- src/lib.rt:171:9
 returns : tie.Need-returns
 unfolding store
 returns c = rw (lt-leb (c .before .before .before .args .s .named) (c .before .before .before .args .s .timers) (c .before .if1 .taken), and-false) (c .to .ensures)
 
--- src/lib.rt:173:8
 is-at-requires : tie.Need-is-at-requires
 is-at-requires c κs = search needs
 
--- src/lib.rt:174:9
 settled-requires : tie.Need-settled-requires
 settled-requires c κs = search needs
 
--- src/lib.rt:174:9
 returns-2 : tie.Need-returns-2
 unfolding store
 returns-2 c = rw (← c .before .before .is-at .ensures, c .before .if2 .taken, le-leb (c .before .before .before .before .before .args .s .named) (c .before .before .before .before .before .args .s .timers) (c .before .before .before .if1 .left)) (c .settled .ensures)
 
--- src/lib.rt:176:8
 is-at-requires-2 : tie.Need-is-at-requires-2
 is-at-requires-2 c κs = search needs
 
--- src/lib.rt:177:9
 settled-requires-2 : tie.Need-settled-requires-2
 settled-requires-2 c κs = search needs
 
--- src/lib.rt:177:9
 returns-3 : tie.Need-returns-3
 unfolding store
 returns-3 c = rw (← c .before .before .before .before .is-at .ensures, c .before .before .before .if2 .left, ← c .before .before .is-at2 .ensures, c .before .if3 .taken, le-leb (c .before .before .before .before .before .before .before .args .s .named) (c .before .before .before .before .before .before .before .args .s .timers) (c .before .before .before .before .before .if1 .left)) (c .settled2 .ensures)
 
--- src/lib.rt:179:5
 to-requires-2 : tie.Need-to-requires-2
 to-requires-2 c κs = search needs
 
--- src/lib.rt:167:1
 returns-4 : tie.Need-returns-4
 unfolding store
 returns-4 c = rw (← c .before .before .before .before .is-at .ensures, c .before .before .before .if2 .left, ← c .before .before .is-at2 .ensures, c .before .if3 .left) (c .to2 .ensures)

@@ -18,55 +18,42 @@ Inv-loop words s₀ i₀ s i = Took words i s
 abbrev μ-loop : tie.MeasureT-loop
 μ-loop words s₀ i₀ s i = length words - i
 
--- src/lib.rt:361:9
 begin-requires : tie.Need-begin-requires Inv-loop μ-loop
 begin-requires c κs = search needs
 
--- src/lib.rt:363:5
 loop-holds : tie.Need-loop-holds Inv-loop μ-loop
 loop-holds c = rw (c .begin .ensures) (took-none _)
 
--- src/lib.rt:364:33
 mul-step-near : tie.Need-mul-step-near Inv-loop μ-loop
 mul-step-near c = search needs
 
--- src/lib.rt:364:33
 shared-slice-read-step-near : tie.Need-shared-slice-read-step-near Inv-loop μ-loop
 shared-slice-read-step-near c = search needs
 
--- src/lib.rt:364:13
 step-near-requires : tie.Need-step-near-requires Inv-loop μ-loop
 step-near-requires c κs = search needs
 
--- src/lib.rt:365:12
 alive-requires : tie.Need-alive-requires Inv-loop μ-loop
 alive-requires c κs = search needs
 
--- src/lib.rt:367:13
 add-i : tie.Need-add-i Inv-loop μ-loop
 add-i c = search needs
 
--- src/lib.rt:363:5
 loop-less : tie.Need-loop-less Inv-loop μ-loop
 loop-less c = search needs
 
--- src/lib.rt:363:5
 loop-again : tie.Need-loop-again Inv-loop μ-loop
 loop-again c = took-one (c .before .before .before .before .before .loop .inv) (c .before .before .step-near .result) (c .before .before .before .before .loop-test .taken) (c .before .before .step-near .ensures) (sym (c .before .alive .ensures) ∙ c .if1 .taken)
 
--- src/lib.rt:369:13
 returns : tie.Need-returns Inv-loop μ-loop
 returns c = took-refused (c .before .before .before .before .before .loop .inv) (c .before .before .step-near .result) (c .before .before .before .before .loop-test .taken) (c .before .before .step-near .ensures) (sym (c .before .alive .ensures) ∙ c .if1 .left)
 
--- src/lib.rt:372:8
 may-end-requires : tie.Need-may-end-requires Inv-loop μ-loop
 may-end-requires c κs = search needs
 
--- src/lib.rt:373:9
 returns-2 : tie.Need-returns-2 Inv-loop μ-loop
 returns-2 c = took-accepted (c .before .before .before .loop .inv) (c .before .before .loop-test .left) (sym (c .before .may-end .ensures) ∙ c .if2 .taken)
 
--- src/lib.rt:358:1
 returns-3 : tie.Need-returns-3 Inv-loop μ-loop
 returns-3 c = took-unfinished (c .before .before .before .loop .inv) (c .before .before .loop-test .left) (sym (c .before .may-end .ensures) ∙ c .if2 .left)
 

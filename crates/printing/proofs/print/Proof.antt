@@ -11,47 +11,36 @@ use Rattle.files.proofs.fields_pass.Reads as fields-pass-reads
 use Rattle.printing.proofs.print_refusal.Reads as print-refusal-reads
 use Rattle.printing.proofs.print_rows.Reads as print-rows-reads
 
--- src/lib.rt:266:9
 fields-pass-requires : tie.Need-fields-pass-requires
 fields-pass-requires c κs = search needs
 
--- src/lib.rt:268:26
 enum-known-v : tie.Need-enum-known-v
 enum-known-v c = search needs
 
--- src/lib.rt:268:32
 print-refusal-requires : tie.Need-print-refusal-requires
 print-refusal-requires c κs = search needs
 
--- src/lib.rt:270:13
 enum-told : tie.Need-enum-told
 enum-told c = search needs
 
--- src/lib.rt:270:13
 chart-of-requires : tie.Need-chart-of-requires
 chart-of-requires c κs = search needs
 
--- src/lib.rt:271:13
 count-rows-requires : tie.Need-count-rows-requires
 count-rows-requires c κs = search needs
 
--- src/lib.rt:269:30
 print-rows-requires : tie.Need-print-rows-requires
 print-rows-requires c κs = search needs
 
--- src/lib.rt:252:1
 same-length : tie.Need-same-length
 same-length c = search needs
 
--- src/lib.rt:252:1
 returns : tie.Need-returns
 returns c = let s = c .before .before .before .before .before .before .before .before .before .before .args in printed-refused (s .answers) (s .frame .now) (s .states .now) (s .moves .now) (s .presets .now) (s .timer-pairs .now) (s .output-pairs .now) (s .scans .now) _ _ _ _ (sym (c .before .before .before .before .before .before .before .fields-pass .ensures) ∙ c .before .before .before .before .before .v .given .1) (c .before .before .print-refusal .ensures (heldTables (s .answers) (s .frame .now) (s .states .now) (s .moves .now) (s .presets .now) (s .timer-pairs .now) (s .output-pairs .now)) (heldScans (s .answers) (s .scans .now)))
 
--- src/lib.rt:252:1
 same-length-2 : tie.Need-same-length-2
 same-length-2 c = search needs
 
--- src/lib.rt:252:1
 returns-2 : tie.Need-returns-2
 returns-2 c = let s = c .before .before .before .before .before .before .before .before .before .before .before .args in printed-rows (s .answers) (s .frame .now) (s .states .now) (s .moves .now) (s .presets .now) (s .timer-pairs .now) (s .output-pairs .now) (s .scans .now) _ _ _ (sym (c .before .before .before .before .before .before .before .before .fields-pass .ensures) ∙ c .before .before .before .before .before .before .enum-told .given .1) (c .before .before .print-rows .ensures (s .answers) (c .before .before .before .before .count-rows .ensures) (s .frame .now) (c .before .before .before .before .before .chart-of .ensures))
 

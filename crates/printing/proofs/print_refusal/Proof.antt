@@ -7,15 +7,12 @@ use Rattle.printing.proofs.print_refusal.Reads as reads
 use Rattle.printing.proofs.print_refusal.Lts as lts
 use Rattle.results.proofs.put_refusal.Reads as put-refusal-reads
 
--- src/lib.rt:69:9
 put-refusal-requires : tie.Need-put-refusal-requires
 put-refusal-requires c κs = search needs
 
--- src/lib.rt:66:1
 same-length : tie.Need-same-length
 same-length c = search needs
 
--- src/lib.rt:66:1
 returns : tie.Need-returns
 unfolding printedOf
 returns c = λ c' xs. record { why = refl; written = c .before .before .put-refusal .ensures }

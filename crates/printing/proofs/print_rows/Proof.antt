@@ -19,123 +19,93 @@ use Rattle.columns.proofs.narrow_signed.Reads as narrow-signed-reads
 use Rattle.columns.proofs.ones.Reads as ones-reads
 use Rattle.printing.proofs.print_tables.Reads as print-tables-reads
 
--- src/lib.rt:223:32
 slice-aggregate-narrow-16 : tie.Need-slice-aggregate-narrow-16
 slice-aggregate-narrow-16 c = search needs
 
--- src/lib.rt:223:5
 narrow-16-requires : tie.Need-narrow-16-requires
 narrow-16-requires c κs = search needs
 
--- src/lib.rt:225:35
 slice-aggregate-narrow-signed : tie.Need-slice-aggregate-narrow-signed
 slice-aggregate-narrow-signed c = search needs
 
--- src/lib.rt:225:5
 narrow-signed-requires : tie.Need-narrow-signed-requires
 narrow-signed-requires c κs = search needs
 
--- src/lib.rt:227:33
 slice-aggregate-narrow-32 : tie.Need-slice-aggregate-narrow-32
 slice-aggregate-narrow-32 c = search needs
 
--- src/lib.rt:227:5
 narrow-32-requires : tie.Need-narrow-32-requires
 narrow-32-requires c κs = search needs
 
--- src/lib.rt:229:37
 slice-aggregate-narrow-16-2 : tie.Need-slice-aggregate-narrow-16-2
 slice-aggregate-narrow-16-2 c = search needs
 
--- src/lib.rt:229:5
 narrow-16-requires-2 : tie.Need-narrow-16-requires-2
 narrow-16-requires-2 c κs = search needs
 
--- src/lib.rt:231:38
 slice-aggregate-narrow-16-3 : tie.Need-slice-aggregate-narrow-16-3
 slice-aggregate-narrow-16-3 c = search needs
 
--- src/lib.rt:231:5
 narrow-16-requires-3 : tie.Need-narrow-16-requires-3
 narrow-16-requires-3 c κs = search needs
 
--- src/lib.rt:232:9
 ones-requires : tie.Need-ones-requires
 ones-requires c κs = search needs
 
--- src/lib.rt:233:9
 ones-requires-2 : tie.Need-ones-requires-2
 ones-requires-2 c κs = search needs
 
--- src/lib.rt:234:9
 ones-requires-3 : tie.Need-ones-requires-3
 ones-requires-3 c κs = search needs
 
--- src/lib.rt:235:9
 ones-requires-4 : tie.Need-ones-requires-4
 ones-requires-4 c κs = search needs
 
--- src/lib.rt:236:9
 ones-requires-5 : tie.Need-ones-requires-5
 ones-requires-5 c κs = search needs
 
--- src/lib.rt:237:9
 ones-requires-6 : tie.Need-ones-requires-6
 ones-requires-6 c κs = search needs
 
--- src/lib.rt:240:9
 array-share-prefix-s : tie.Need-array-share-prefix-s
 array-share-prefix-s c = search needs
 
--- src/lib.rt:240:9
 slice-aggregate-print-tables : tie.Need-slice-aggregate-print-tables
 slice-aggregate-print-tables c = sym (length-take-le _ _ (search needs))
 
--- src/lib.rt:241:9
 array-share-prefix-m : tie.Need-array-share-prefix-m
 array-share-prefix-m c = search needs
 
--- src/lib.rt:241:9
 slice-aggregate-print-tables-2 : tie.Need-slice-aggregate-print-tables-2
 slice-aggregate-print-tables-2 c = sym (length-take-le _ _ (search needs))
 
--- src/lib.rt:242:9
 array-share-prefix-d : tie.Need-array-share-prefix-d
 array-share-prefix-d c = search needs
 
--- src/lib.rt:242:9
 slice-aggregate-print-tables-3 : tie.Need-slice-aggregate-print-tables-3
 slice-aggregate-print-tables-3 c = sym (length-take-le _ _ (search needs))
 
--- src/lib.rt:243:9
 array-share-prefix-t : tie.Need-array-share-prefix-t
 array-share-prefix-t c = search needs
 
--- src/lib.rt:243:9
 slice-aggregate-print-tables-4 : tie.Need-slice-aggregate-print-tables-4
 slice-aggregate-print-tables-4 c = sym (length-take-le _ _ (search needs))
 
--- src/lib.rt:244:9
 array-share-prefix-o : tie.Need-array-share-prefix-o
 array-share-prefix-o c = search needs
 
--- src/lib.rt:244:9
 slice-aggregate-print-tables-5 : tie.Need-slice-aggregate-print-tables-5
 slice-aggregate-print-tables-5 c = sym (length-take-le _ _ (search needs))
 
--- src/lib.rt:245:9
 slice-aggregate-print-tables-6 : tie.Need-slice-aggregate-print-tables-6
 slice-aggregate-print-tables-6 c = sym (length-take-le _ _ (search needs))
 
--- src/lib.rt:238:5
 print-tables-requires : tie.Need-print-tables-requires
 print-tables-requires c κs = search needs
 
--- src/lib.rt:208:1
 same-length : tie.Need-same-length
 same-length c = search needs
 
--- src/lib.rt:208:1
 returns : tie.Need-returns
 returns c = λ a h frame e.
     let s = c .before .before .before .before .before .before .before .before .before .before .before .before .before .before .before .before .before .before .before .before .before .before .before .before .before .before .before .before .before .before .before .before .before .before .before .before .before .before .args in

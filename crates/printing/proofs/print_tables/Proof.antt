@@ -10,43 +10,33 @@ use Rattle.printing.proofs.print_tables.Reads as reads
 use Rattle.printing.proofs.print_tables.Lts as lts
 use Rattle.printing.proofs.print_run.Reads as print-run-reads
 
--- src/lib.rt:142:9
 returns : tie.Need-returns
 returns c = λ h. absurd (omega (arith, h))
 
--- src/lib.rt:155:9
 slice-aggregate-print-run : tie.Need-slice-aggregate-print-run
 slice-aggregate-print-run c = search needs
 
--- src/lib.rt:156:9
 slice-aggregate-print-run-2 : tie.Need-slice-aggregate-print-run-2
 slice-aggregate-print-run-2 c = search needs
 
--- src/lib.rt:158:9
 array-borrow-prefix-leaves : tie.Need-array-borrow-prefix-leaves
 array-borrow-prefix-leaves c = search needs
 
--- src/lib.rt:158:9
 slice-aggregate-print-run-3 : tie.Need-slice-aggregate-print-run-3
 slice-aggregate-print-run-3 c = sym (length-take-le _ _ (search needs))
 
--- src/lib.rt:159:9
 array-borrow-prefix-outputs : tie.Need-array-borrow-prefix-outputs
 array-borrow-prefix-outputs c = search needs
 
--- src/lib.rt:159:9
 slice-aggregate-print-run-4 : tie.Need-slice-aggregate-print-run-4
 slice-aggregate-print-run-4 c = sym (length-take-le _ _ (search needs))
 
--- src/lib.rt:148:5
 print-run-requires : tie.Need-print-run-requires
 print-run-requires c κs = search needs
 
--- src/lib.rt:125:1
 same-length : tie.Need-same-length
 same-length c = search needs
 
--- src/lib.rt:125:1
 returns-2 : tie.Need-returns-2
 returns-2 c = λ h. c .before .before .before .before .before .before .print-run .ensures (length-replicate {A = ℕ} 65536 0) (length-replicate {A = ℕ} 65536 0) (length-take-le _ _ (search needs)) (length-take-le _ _ (search needs))
 

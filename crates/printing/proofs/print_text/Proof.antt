@@ -8,23 +8,18 @@ use Rattle.printing.proofs.print_text.Reads as reads
 use Rattle.printing.proofs.print_text.Lts as lts
 use Rattle.results.proofs.put_run.Reads as put-run-reads
 
--- src/lib.rt:79:9
 returns : tie.Need-returns
 returns c = λ h e. absurd (omega (arith, h))
 
--- src/lib.rt:81:40
 slice-aggregate-put-run : tie.Need-slice-aggregate-put-run
 slice-aggregate-put-run c = sym (length-take-le _ _ (search needs))
 
--- src/lib.rt:81:9
 put-run-requires : tie.Need-put-run-requires
 put-run-requires c κs = search needs
 
--- src/lib.rt:74:1
 same-length : tie.Need-same-length
 same-length c = search needs
 
--- src/lib.rt:74:1
 returns-2 : tie.Need-returns-2
 returns-2 c = λ h e. record { why = refl; written = c .before .before .put-run .ensures e }
 

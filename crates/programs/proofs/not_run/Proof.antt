@@ -6,19 +6,15 @@ use Rattle.programs.proofs.not_run.Tie as tie
 use Rattle.programs.proofs.not_run.Reads as reads
 use Rattle.programs.proofs.not_run.Lts as lts
 
--- src/lib.rt:104:30
 enum-told : tie.Need-enum-told
 enum-told c = search needs
 
--- src/lib.rt:105:26
 enum-known-v : tie.Need-enum-known-v
 enum-known-v c = search needs
 
--- src/lib.rt:100:1
 returns : tie.Need-returns
 returns c = search needs
 
--- src/lib.rt:100:1
 returns-2 : tie.Need-returns-2
 returns-2 c = sym (ap ranFor (c .before .v .given .1))
 

@@ -48,10 +48,10 @@ use Rattle.meaning.proofs.Block.Laws as T′
 use Rattle.meaning.specs.declared.Verdict.{Verdict}
 use Rattle.meaning.proofs.Verdict as J
 use Rattle.meaning.proofs.Verdict.Laws as J′
-use Rattle.programs.specs.declared.Ran.{Ran}
-use Rattle.programs.specs.declared.Ran.the-variants.{Done}
-use Rattle.programs.proofs.Ran as N
-use Rattle.programs.proofs.Ran.Laws as N′
+use Rattle.meaning.specs.declared.Ran.{Ran}
+use Rattle.meaning.specs.declared.Ran.the-variants.{Done}
+use Rattle.meaning.proofs.Ran as N
+use Rattle.meaning.proofs.Ran.Laws as N′
 use Rattle.il.specs.Scans.{holding}
 use Rattle.row.specs.Row.{RowRun}
 use Rattle.row.specs.Lent.{LentAgain, lends-again, comes-back, SharedOut, shares-out, comes-home}

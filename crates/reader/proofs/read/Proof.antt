@@ -11,29 +11,23 @@ use Rattle.reader.proofs.read.Reads as reads
 use Rattle.reader.proofs.read.Lts as lts
 use Rattle.text_pass.proofs.pass.Reads as pass-reads
 
--- src/lib.rt:18:42
 slice-relend-prefix-pass : tie.Need-slice-relend-prefix-pass
 slice-relend-prefix-pass c = search needs
 
--- src/lib.rt:18:42
 slice-aggregate-pass : tie.Need-slice-aggregate-pass
 slice-aggregate-pass c =
     let l = c .before .before .before .args .out .now in
     omega (arith, length-take 0 l, length-take (length l) l)
 
--- src/lib.rt:18:9
 pass-requires : tie.Need-pass-requires
 pass-requires c κs = search needs
 
--- src/lib.rt:20:23
 enum-known-measured : tie.Need-enum-known-measured
 enum-known-measured c = search needs
 
--- src/lib.rt:22:17
 same-length : tie.Need-same-length
 same-length c = search needs
 
--- src/lib.rt:22:17
 returns : tie.Need-returns
 returns c =
     let a = c .before .before .before .before .before .before .before .before .before .before .args in
@@ -43,19 +37,15 @@ returns c =
     let e : w ++ a .out .now ≡ a .out .now = empty-part w (a .out .now) (same-length c) in
     read-cramped (a .out .now) (w ++ a .out .now) e q (omega (arith, c .if1 .taken)) (omega (arith, q .few))
 
--- src/lib.rt:24:13
 pass-requires-2 : tie.Need-pass-requires-2
 pass-requires-2 c κs = search needs
 
--- src/lib.rt:27:26
 enum-known-measured-2 : tie.Need-enum-known-measured-2
 enum-known-measured-2 c = search needs
 
--- src/lib.rt:13:1
 same-length-2 : tie.Need-same-length-2
 same-length-2 c = search needs
 
--- src/lib.rt:13:1
 returns-2 : tie.Need-returns-2
 returns-2 c =
     let a = c .before .before .before .before .before .before .before .before .before .before .before .before .before .before .args in
@@ -65,11 +55,9 @@ returns-2 c =
     let q = rw (c .before .before .before .before .before .before .measured .given .1) at (k .ensures) in
     read-passed (a .out .now) _ (c .before .before .pass2 .result) q (omega (arith, c .before .before .before .before .if1 .left)) (rw (empty-part w (a .out .now) n) at (c .before .before .pass2 .ensures))
 
--- src/lib.rt:13:1
 same-length-3 : tie.Need-same-length-3
 same-length-3 c = search needs
 
--- src/lib.rt:13:1
 returns-3 : tie.Need-returns-3
 returns-3 c =
     let a = c .before .before .before .before .before .before .before .before .before .args in

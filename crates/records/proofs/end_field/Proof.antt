@@ -28,8 +28,8 @@ decimal-of-requires c κs = search needs
 enum-known-d : tie.Need-enum-known-d
 enum-known-d c = search needs
 
-store-requires : tie.Need-store-requires
-store-requires c κs = search needs
+put-word-requires : tie.Need-put-word-requires
+put-word-requires c κs = search needs
 
 one-more-requires : tie.Need-one-more-requires
 one-more-requires c κs = search needs
@@ -46,7 +46,7 @@ returns-2 c = (let k = c .before .before .before .before .before .before .before
     let e = sym (k .before .before .before .before .ends-return .ensures) ∙ k .before .before .before .if1 .left in
     let f = sym (k .before .before .in-place .ensures) ∙ k .before .if2 .taken in
     let d = sym (k .decimal-of .ensures) ∙ c .before .before .before .before .before .before .before .d .given .1 in
-    record { state = rw (e, f, d) (rw (← c .before .one-more .ensures) (c .pass2 .ensures)); stored = rw (f, d) (c .before .before .before .before .store .ensures) })
+    record { state = rw (e, f, d) (rw (← c .before .one-more .ensures) (c .pass2 .ensures)); stored = rw (f, d) (c .before .before .before .before .put-word .ensures) })
 
 enum-told : tie.Need-enum-told
 enum-told c = search needs
@@ -81,7 +81,7 @@ end-field-spec =
     in-place-requires
     decimal-of-requires
     enum-known-d
-    store-requires
+    put-word-requires
     one-more-requires
     pass-requires-2
     same-length

@@ -1,7 +1,6 @@
 use borrow.Author.Needs.{needs}
 use Rattle.records.proofs.ends_return.Statement.{statement}
 use Rattle.records.proofs.ends_return.Tie as tie
-use mathlib.Core.Path.{sym, _∙_}
 use borrow.Author.Tests.{eq-eqb, ne-eqb}
 
 is-return-requires : tie.Need-is-return-requires

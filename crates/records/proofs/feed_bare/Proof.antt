@@ -40,8 +40,8 @@ same-length-2 c = c .before .before .before .before .before .before .loop .inv .
 returns-2 : tie.Need-returns-2 Inv-loop μ-loop
 returns-2 c = c .before .before .before .before .before .before .loop .inv
 
-store-requires : tie.Need-store-requires Inv-loop μ-loop
-store-requires c κs = search needs
+put-word-requires : tie.Need-put-word-requires Inv-loop μ-loop
+put-word-requires c κs = search needs
 
 shared-slice-read-pass : tie.Need-shared-slice-read-pass Inv-loop μ-loop
 shared-slice-read-pass c = end-closes _ _ _ _ _ (c .before .before .before .before .before .if2 .left) (c .before .before .before .before .before .before .field-end .ensures) .1
@@ -65,7 +65,7 @@ loop-again c = (let k = c .before .before .before .before .before .before .befor
     let r = sym (c .before .before .before .before .before .before .before .before .before .before .before .is-ready .ensures) ∙ not-false _ (c .before .before .before .before .before .before .before .before .before .before .if1 .left) in
     let l : length (k .loop .out) ≤ top = search needs in
     let t = turn-field (k .loop .s) bytes (k .loop .out) (k .loop .i) (c .before .before .before .before .before .before .before .before .before .bare .result) l r (bare-way (k .loop .s) bytes (k .loop .i) r _ (c .before .before .before .before .before .before .before .before .before .bare .ensures) (h .0)) (c .before .before .before .before .before .before .before .before .field-end .result) (h .1) (h .2) in
-    record { on = omega arith; turn = rw (c .pass .ensures, c .before .one-more .ensures, c .before .before .before .before .before .store .ensures) (turn-then (k .loop .inv .turn) t) })
+    record { on = omega arith; turn = rw (c .pass .ensures, c .before .one-more .ensures, c .before .before .before .before .before .put-word .ensures) (turn-then (k .loop .inv .turn) t) })
 
 same-length-3 : tie.Need-same-length-3 Inv-loop μ-loop
 same-length-3 c = c .before .loop .inv .turn .lengths
@@ -87,7 +87,7 @@ feed-bare-spec =
     field-end-requires
     same-length-2
     returns-2
-    store-requires
+    put-word-requires
     shared-slice-read-pass
     one-more-requires
     pass-requires

@@ -10,35 +10,27 @@ use Rattle.meaning.proofs.number.Reads as number-reads
 use Rattle.meaning.proofs.place.Reads as place-reads
 use Rattle.results.proofs.put_end.Reads as put-end-reads
 
--- src/lib.rt:28:39
 slice-aggregate-put-bytes : tie.Need-slice-aggregate-put-bytes
 slice-aggregate-put-bytes c = search needs
 
--- src/lib.rt:28:9
 put-bytes-requires : tie.Need-put-bytes-requires
 put-bytes-requires c κs = search needs
 
--- src/lib.rt:29:21
 number-requires : tie.Need-number-requires
 number-requires c κs = search needs
 
--- src/lib.rt:29:21
 cast-put-end : tie.Need-cast-put-end
 cast-put-end c = search needs
 
--- src/lib.rt:29:48
 place-requires : tie.Need-place-requires
 place-requires c κs = search needs
 
--- src/lib.rt:29:5
 put-end-requires : tie.Need-put-end-requires
 put-end-requires c κs = search needs
 
--- src/lib.rt:25:1
 same-length : tie.Need-same-length
 same-length c = search needs
 
--- src/lib.rt:25:1
 returns : tie.Need-returns
 returns c = rw (refusal-parts (c .before .before .before .before .before .before .before .before .before .before .before .before .args .r), ← c .before .before .before .before .number .ensures, ← c .before .before .before .place .ensures) (put-put (c .before .before .before .before .before .before .before .before .put-bytes .ensures) (c .before .before .put-end .ensures))
 

@@ -7,19 +7,15 @@ use Rattle.results.proofs.put_run.Lts as lts
 use Rattle.lines.proofs.put_bytes.Reads as put-bytes-reads
 use Rattle.results.proofs.put_scans.Reads as put-scans-reads
 
--- src/lib.rt:61:9
 put-bytes-requires : tie.Need-put-bytes-requires
 put-bytes-requires c κs = search needs
 
--- src/lib.rt:62:5
 put-scans-requires : tie.Need-put-scans-requires
 put-scans-requires c κs = search needs
 
--- src/lib.rt:57:1
 same-length : tie.Need-same-length
 same-length c = search needs
 
--- src/lib.rt:57:1
 returns : tie.Need-returns
 returns c = λ e. put-put (c .before .before .before .before .before .before .put-bytes .ensures) (c .before .before .put-scans .ensures e)
 

@@ -7,19 +7,15 @@ use Rattle.results.proofs.put_scan.Lts as lts
 use Rattle.lines.proofs.put_decimal.Reads as put-decimal-reads
 use Rattle.results.proofs.put_end.Reads as put-end-reads
 
--- src/lib.rt:35:9
 put-decimal-requires : tie.Need-put-decimal-requires
 put-decimal-requires c κs = search needs
 
--- src/lib.rt:36:5
 put-end-requires : tie.Need-put-end-requires
 put-end-requires c κs = search needs
 
--- src/lib.rt:32:1
 same-length : tie.Need-same-length
 same-length c = search needs
 
--- src/lib.rt:32:1
 returns : tie.Need-returns
 returns c = put-put (c .before .before .before .before .before .before .put-decimal .ensures) (c .before .before .put-end .ensures)
 

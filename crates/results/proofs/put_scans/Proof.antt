@@ -20,52 +20,40 @@ Inv-loop out₀ at leaves outputs i₀ p₀ out i p = (i ≤ length leaves) × P
 abbrev μ-loop : tie.MeasureT-loop
 μ-loop out₀ at leaves outputs i₀ p₀ out i p = length leaves - i
 
--- src/lib.rt:46:5
 loop-holds : tie.Need-loop-holds Inv-loop μ-loop
 unfolding linesOf
 loop-holds c = (omega arith, put-none _ _ (omega arith) (omega arith))
 
--- src/lib.rt:48:13
 same-length : tie.Need-same-length Inv-loop μ-loop
 same-length c = put-length (c .before .before .loop .inv .1)
 
--- src/lib.rt:48:13
 returns : tie.Need-returns Inv-loop μ-loop
 returns c = λ e. absurd (omega (arith, e))
 
--- src/lib.rt:50:30
 add-put-scan : tie.Need-add-put-scan Inv-loop μ-loop
 add-put-scan c = search needs
 
--- src/lib.rt:50:37
 mul-put-scan : tie.Need-mul-put-scan Inv-loop μ-loop
 mul-put-scan c = search needs
 
--- src/lib.rt:50:37
 shared-slice-read-put-scan : tie.Need-shared-slice-read-put-scan Inv-loop μ-loop
 shared-slice-read-put-scan c = search needs
 
--- src/lib.rt:50:48
 mul-put-scan-2 : tie.Need-mul-put-scan-2 Inv-loop μ-loop
 mul-put-scan-2 c = search needs
 
--- src/lib.rt:50:48
 shared-slice-read-put-scan-2 : tie.Need-shared-slice-read-put-scan-2 Inv-loop μ-loop
 shared-slice-read-put-scan-2 c = search needs
 
--- src/lib.rt:50:9
 put-scan-requires : tie.Need-put-scan-requires Inv-loop μ-loop
 put-scan-requires c κs = search needs
 
--- src/lib.rt:51:9
 add-i : tie.Need-add-i Inv-loop μ-loop
 add-i c = search needs
 
--- src/lib.rt:46:5
 loop-less : tie.Need-loop-less Inv-loop μ-loop
 loop-less c = omega arith
 
--- src/lib.rt:46:5
 loop-again : tie.Need-loop-again Inv-loop μ-loop
 loop-again c =
     let k = c .before .before .before .before .before .before .before .before in
@@ -76,11 +64,9 @@ loop-again c =
     let e : 1 + k .loop .i ≡ k .loop .i + 1 = omega arith in
     (omega arith, rw (add-one, lines-more 1 (k .loop .i) ls os h g, e) (put-put (k .loop .inv .1) (c .before .before .put-scan .ensures)))
 
--- src/lib.rt:40:1
 same-length-2 : tie.Need-same-length-2 Inv-loop μ-loop
 same-length-2 c = put-length (c .before .loop .inv .1)
 
--- src/lib.rt:40:1
 returns-2 : tie.Need-returns-2 Inv-loop μ-loop
 returns-2 c = λ e. rw (take-all (c .before .loop .i) (c .before .before .before .before .before .args .leaves .now) (omega arith), take-all (c .before .loop .i) (c .before .before .before .before .before .args .outputs .now) (omega (arith, e))) at (c .before .loop .inv .1)
 

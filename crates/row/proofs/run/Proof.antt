@@ -50,18 +50,18 @@ use Rattle.row.specs.Row.{RowScan, RowRun}
 use Rattle.row.specs.RowLaws.{Ran-on, run-start, run-turn, run-end}
 use Rattle.row.specs.Lent.{LentAgain, lends-again, comes-back}
 use Rattle.row.specs.Body.{rest-of}
-use Rattle.il.proofs.input as input-fn
-use Rattle.il.proofs.input.Symbol as input-def
-use Rattle.il.proofs.input.Symbol.{name as #il·input}
-use Rattle.il.proofs.input.Met as input-thm
+use Rattle.slices.proofs.word as word-fn
+use Rattle.slices.proofs.word.Symbol as word-def
+use Rattle.slices.proofs.word.Symbol.{name as #slices·word}
+use Rattle.slices.proofs.word.Met as word-thm
 use Rattle.row.proofs.scan as scan-fn
 use Rattle.row.proofs.scan.Symbol as scan-def
 use Rattle.row.proofs.scan.Symbol.{name as #row·scan}
 use Rattle.row.proofs.scan.Met as scan-thm
-use Rattle.il.proofs.put_word as put-word-fn
-use Rattle.il.proofs.put_word.Symbol as put-word-def
-use Rattle.il.proofs.put_word.Symbol.{name as #il·put-word}
-use Rattle.il.proofs.put_word.Met as put-word-thm
+use Rattle.slices.proofs.put_word as put-word-fn
+use Rattle.slices.proofs.put_word.Symbol as put-word-def
+use Rattle.slices.proofs.put_word.Symbol.{name as #slices·put-word}
+use Rattle.slices.proofs.put_word.Met as put-word-thm
 use Rattle.row.proofs.run.Key.{name as #row·run}
 use Rattle.row.proofs.run as f
 use Rattle.row.proofs.run.Statement as stated
@@ -86,8 +86,8 @@ told-T s v is = ap only (LL.tells T.the-type T′.the-laws s _ is)
 
 module _ {M : Type 1} (𝓤 : URA M) (H : Heap 𝓤) (A : Atoms 𝓤) (mem : Memory → SProp 𝓤) (run : Routine → Fun 𝓤) where
   -- the contracts that the proof cites
-  abbrev The-input : Contract 𝓤
-  The-input = tripleOf 𝓤 H A input-fn.signature (input-fn.spec 𝓤 H A mem run)
+  abbrev The-word : Contract 𝓤
+  The-word = tripleOf 𝓤 H A word-fn.signature (word-fn.spec 𝓤 H A mem run)
 
   abbrev The-scan : Contract 𝓤
   The-scan = tripleOf 𝓤 H A scan-fn.signature (scan-fn.spec 𝓤 H A mem run)
@@ -99,13 +99,13 @@ module _ {M : Type 1} (𝓤 : URA M) (H : Heap 𝓤) (A : Atoms 𝓤) (W : Given
   typed-T : (d : Block) (w : Val) → Is-T d w → Holds (hasTy T′.mir w) × WT w
   typed-T d w is = LL.lawful T.the-type T′.the-laws 𝓤 H A W .typed d (w ∷ []) is .0
 
-  -- ---- `input`
+  -- ---- `word`
   module _ (κ₀ : Lft) (q₀ : Share) (r₀ : RefT (List ℕ)) (v₀ : Val) (a₁ : ℕ) (v₁ : Val) (is₁ : Is usize a₁ (v₁ ∷ [])) where
-    abbrev to-input : The-input 𝓤 H A mem run .Ghost
-    to-input = (((κ₀, tt), (q₀, tt), tt, (r₀, (a₁, tt)), (v₀ ∷ [], (v₁ ∷ [], tt))), tt)
+    abbrev to-word : The-word 𝓤 H A mem run .Ghost
+    to-word = (((κ₀, tt), (q₀, tt), tt, (r₀, (a₁, tt)), (v₀ ∷ [], (v₁ ∷ [], tt))), tt)
 
-    goes-input : ent 𝓤 (⋆ 𝓤 H A (‵ (flft κ₀ q₀) ∷ ‵ (ShrSlice (named 0) κ₀ u64 .own r₀ (v₀ ∷ [])) ∷ [])) (The-input 𝓤 H A mem run .pre to-input)
-    goes-input =
+    goes-word : ent 𝓤 (⋆ 𝓤 H A (‵ (flft κ₀ q₀) ∷ ‵ (ShrSlice (named 0) κ₀ u64 .own r₀ (v₀ ∷ [])) ∷ [])) (The-word 𝓤 H A mem run .pre to-word)
+    goes-word =
         qed W (‵ (flft κ₀ q₀) ∷ ‵ (ShrSlice (named 0) κ₀ u64 .own r₀ (v₀ ∷ [])) ∷ []) ∵
         nothing ! $
         move ! (1 ∷ 0 ∷ []) $
@@ -117,13 +117,13 @@ module _ {M : Type 1} (𝓤 : URA M) (H : Heap 𝓤) (A : Atoms 𝓤) (W : Given
         move ! (1 ∷ 0 ∷ []) $
         join ! $ frame ! $ done !
 
-    abbrev Gave-input : (w : Val) (r : ℕ) → Item 𝓤
-    Gave-input w r = given (Is u64 r (w ∷ []) × (r ≡ getD (r₀ .now) (a₁) 0)) (‵ (flft κ₀ q₀))
+    abbrev Gave-word : (w : Val) (r : ℕ) → Item 𝓤
+    Gave-word w r = given (Is u64 r (w ∷ []) × (r ≡ getD (r₀ .now) (a₁) 0)) (‵ (flft κ₀ q₀))
 
-    gives-input : (w : Val) → ent 𝓤 (The-input 𝓤 H A mem run .post to-input w) (H .⇛ (ex 𝓤 (λ (r : ℕ). mean 𝓤 H A (Gave-input w r))))
-    gives-input w =
-        qed W (raw (The-input 𝓤 H A mem run .post to-input w) ∷ []) ∵ updating ! $
-        use1 W (later (some (λ (r : ℕ). ((‵ (flft κ₀ q₀) ⊛ ‵ ftrue) ⊛ ‵ (u64 .own r (w ∷ []))) ⊛ some (λ (zs : (Unit {0} × (Unit {0} × Unit {0}))). ‵ (lasts input-fn.ended (κ₀, tt) (r₀, (a₁, tt)) zs) ⊛ raw (fact 𝓤 (r ≡ getD (r₀ .now) (a₁) 0)))))) (id⊢ 𝓤 _) $ await ! tt $
+    gives-word : (w : Val) → ent 𝓤 (The-word 𝓤 H A mem run .post to-word w) (H .⇛ (ex 𝓤 (λ (r : ℕ). mean 𝓤 H A (Gave-word w r))))
+    gives-word w =
+        qed W (raw (The-word 𝓤 H A mem run .post to-word w) ∷ []) ∵ updating ! $
+        use1 W (later (some (λ (r : ℕ). ((‵ (flft κ₀ q₀) ⊛ ‵ ftrue) ⊛ ‵ (u64 .own r (w ∷ []))) ⊛ some (λ (zs : (Unit {0} × (Unit {0} × Unit {0}))). ‵ (lasts word-fn.ended (κ₀, tt) (r₀, (a₁, tt)) zs) ⊛ raw (fact 𝓤 (r ≡ getD (r₀ .now) (a₁) 0)))))) (id⊢ 𝓤 _) $ await ! tt $
         pick ! (λ r. split ! $ move ! (1 ∷ []) $
         pick ! (λ zs. split ! $ move ! (1 ∷ []) $
         heard ! (r ≡ getD (r₀ .now) (a₁) 0) (λ e.
@@ -134,7 +134,7 @@ module _ {M : Type 1} (𝓤 : URA M) (H : Heap 𝓤) (A : Atoms 𝓤) (W : Given
         move ! (1 ∷ []) $
         split ! $
         at-once ! $
-        show ! (λ (r : ℕ). mean 𝓤 H A (Gave-input w r)) r $
+        show ! (λ (r : ℕ). mean 𝓤 H A (Gave-word w r)) r $
         check ! (isr, e) $
         keep ! (0 ∷ []) $ done !))))
 
@@ -342,7 +342,7 @@ module _ {M : Type 1} (𝓤 : URA M) (H : Heap 𝓤) (A : Atoms 𝓤) (W : Given
   fits : (y : Place) → y .0 < 2 ^ 64
   fits y = omega (arith, y .1 .1 .1 .1 .0, room₂ .0)
 
-  module _ (𝓣 : Tables 𝓤 H) (known-input : Triple 𝓤 (𝓣 .C #il·input) (The-input 𝓤 H A mem run)) (known-scan : Triple 𝓤 (𝓣 .C #row·scan) (The-scan 𝓤 H A mem run)) (known-put-word : Triple 𝓤 (𝓣 .C #il·put-word) (The-put-word 𝓤 H A mem run)) (l₀ l₁ l₂ l₃ l₄ l₅ l₆ l₇ l₈ l₉ l₁₀ l₁₁ l₁₂ l₁₃ l₁₄ l₁₅ l₁₆ l₁₇ l₁₈ : ℕ) where
+  module _ (𝓣 : Tables 𝓤 H) (known-word : Triple 𝓤 (𝓣 .C #slices·word) (The-word 𝓤 H A mem run)) (known-scan : Triple 𝓤 (𝓣 .C #row·scan) (The-scan 𝓤 H A mem run)) (known-put-word : Triple 𝓤 (𝓣 .C #slices·put-word) (The-put-word 𝓤 H A mem run)) (l₀ l₁ l₂ l₃ l₄ l₅ l₆ l₇ l₈ l₉ l₁₀ l₁₁ l₁₂ l₁₃ l₁₄ l₁₅ l₁₆ l₁₇ l₁₈ : ℕ) where
     abbrev C : Calls 𝓤 H
     C = 𝓣 .C
 
@@ -378,9 +378,9 @@ module _ {M : Type 1} (𝓤 : URA M) (H : Heap 𝓤) (A : Atoms 𝓤) (W : Given
         move ! (2 ∷ []) $
         use1 W (‵ Own-xs ⊛ ‵ Own-xs) (shr-slice-copy 𝓤 H A W (named 1) κ₂ u64 .twice (x-xs γ₂ xs) (v-xs ∷ [])) $ split ! $
         move ! (4 ∷ 0 ∷ []) $
-        cut (‵ (flft κ₂ q₂) ∷ ‵ Own-xs ∷ []) (raw (The-input 𝓤 H A mem run .pre (to-input 𝓤 H A W mem run κ₂ q₂ (x-xs γ₂ xs) v-xs (y .0) (vint w64 (y .0)) (refl, fits y))) ∷ []) _ (goes-input 𝓤 H A W mem run κ₂ q₂ (x-xs γ₂ xs) v-xs (y .0) (vint w64 (y .0)) (refl, fits y)) $
-        calls-at ! fm (The-input 𝓤 H A mem run) known-input (to-input 𝓤 H A W mem run κ₂ q₂ (x-xs γ₂ xs) v-xs (y .0) (vint w64 (y .0)) (refl, fits y)) (and-then ! (load ! (from ! (stop !)) (look ! 40 refl)) (and-then ! (load ! (from ! (stop !)) (look ! 32 refl)) (no-more !))) (λ w₁.
-        use1 W (later (some (λ (r : ℕ). Gave-input 𝓤 H A W mem run κ₂ q₂ (x-xs γ₂ xs) v-xs (y .0) (vint w64 (y .0)) (refl, fits y) w₁ r))) (gives-input 𝓤 H A W mem run κ₂ q₂ (x-xs γ₂ xs) v-xs (y .0) (vint w64 (y .0)) (refl, fits y) w₁) $ await ! tt $
+        cut (‵ (flft κ₂ q₂) ∷ ‵ Own-xs ∷ []) (raw (The-word 𝓤 H A mem run .pre (to-word 𝓤 H A W mem run κ₂ q₂ (x-xs γ₂ xs) v-xs (y .0) (vint w64 (y .0)) (refl, fits y))) ∷ []) _ (goes-word 𝓤 H A W mem run κ₂ q₂ (x-xs γ₂ xs) v-xs (y .0) (vint w64 (y .0)) (refl, fits y)) $
+        calls-at ! fm (The-word 𝓤 H A mem run) known-word (to-word 𝓤 H A W mem run κ₂ q₂ (x-xs γ₂ xs) v-xs (y .0) (vint w64 (y .0)) (refl, fits y)) (and-then ! (load ! (from ! (stop !)) (look ! 40 refl)) (and-then ! (load ! (from ! (stop !)) (look ! 32 refl)) (no-more !))) (λ w₁.
+        use1 W (later (some (λ (r : ℕ). Gave-word 𝓤 H A W mem run κ₂ q₂ (x-xs γ₂ xs) v-xs (y .0) (vint w64 (y .0)) (refl, fits y) w₁ r))) (gives-word 𝓤 H A W mem run κ₂ q₂ (x-xs γ₂ xs) v-xs (y .0) (vint w64 (y .0)) (refl, fits y) w₁) $ await ! tt $
         pick ! (λ r₁.
         learn ! (λ e₁.
         land ! (from ! (stop !)) (init ! 30 refl (subst (λ (u : Val). Holds (hasTy (tyInt w64) u) × WT u) (sym (ap only ((e₁ .0) .0))) (tt, record { fits = (e₁ .0) .1 }))) $ rewrite ! 30 (λ (u : Val). ‵ (fat fullShare (tyInt w64) l₈ 0 u)) (ap only ((e₁ .0) .0)) refl $
@@ -530,9 +530,9 @@ module _ {M : Type 1} (𝓤 : URA M) (H : Heap 𝓤) (A : Atoms 𝓤) (W : Given
         nearer : Holds (ltb (y .0) (length xs)) → length xs - (y .0 + 1) < length xs - y .0
         nearer less = omega (arith, less-than less)
 
-  walk : (𝓣 : Tables 𝓤 H) → Triple 𝓤 (𝓣 .C #il·input) (The-input 𝓤 H A mem run) → Triple 𝓤 (𝓣 .C #row·scan) (The-scan 𝓤 H A mem run) → Triple 𝓤 (𝓣 .C #il·put-word) (The-put-word 𝓤 H A mem run)
+  walk : (𝓣 : Tables 𝓤 H) → Triple 𝓤 (𝓣 .C #slices·word) (The-word 𝓤 H A mem run) → Triple 𝓤 (𝓣 .C #row·scan) (The-scan 𝓤 H A mem run) → Triple 𝓤 (𝓣 .C #slices·put-word) (The-put-word 𝓤 H A mem run)
       → ent 𝓤 (onEntry 𝓤 H A f.signature (κ₀, (κ₂, (κ₃, (κ₄, (κ₅, tt))))) (q₀, (q₂, (q₃, (q₄, (q₅, tt))))) ((x-ws γ₀ ws), (st, ((x-xs γ₂ xs), ((x-os γ₃ os₀), ((x-fs γ₄ fs₀), ((x-bs γ₅ bs₀), tt)))))) (v-ws ∷ [], ((vint w32 st) ∷ [], (v-xs ∷ [], (v-os ∷ [], (v-fs ∷ [], (v-bs ∷ [], tt))))))) (WpFn 𝓤 H (𝓣 .C) (𝓣 .Λ) code.function (v-ws ∷ (vint w32 st) ∷ v-xs ∷ v-os ∷ v-fs ∷ v-bs ∷ []) Post)
-  walk 𝓣 known-input known-scan known-put-word =
+  walk 𝓣 known-word known-scan known-put-word =
       qed W ((‵ (flft κ₀ q₀) ⊛ (‵ (flft κ₂ q₂) ⊛ (‵ (flft κ₃ q₃) ⊛ (‵ (flft κ₄ q₄) ⊛ (‵ (flft κ₅ q₅) ⊛ ‵ ftrue))))) ∷ ‵ (owns (ShrSlice (named 0) κ₀ u32 ∷ u32 ∷ ShrSlice (named 1) κ₂ u64 ∷ MutSlice (named 2) κ₃ u64 ∷ MutSlice (named 3) κ₄ u8 ∷ MutSlice (named 4) κ₅ T.the-row ∷ []) ((x-ws γ₀ ws), (st, ((x-xs γ₂ xs), ((x-os γ₃ os₀), ((x-fs γ₄ fs₀), ((x-bs γ₅ bs₀), tt)))))) (v-ws ∷ [], ((vint w32 st) ∷ [], (v-xs ∷ [], (v-os ∷ [], (v-fs ∷ [], (v-bs ∷ [], tt))))))) ∷ []) ∵
       enter ! (𝓣 .C) (𝓣 .Λ) code.function (v-ws ∷ (vint w32 st) ∷ v-xs ∷ v-os ∷ v-fs ∷ v-bs ∷ []) _ $
       alloc1 ! (λ l₀.
@@ -590,12 +590,12 @@ module _ {M : Type 1} (𝓤 : URA M) (H : Heap 𝓤) (A : Atoms 𝓤) (W : Given
       drop ! $
       move ! (9 ∷ 4 ∷ 8 ∷ 3 ∷ 7 ∷ 2 ∷ 6 ∷ 1 ∷ 5 ∷ 0 ∷ []) $
       assigns ! (of-opd ! (lit ! tt)) (from ! (stop !)) (init ! 32 refl (tt, record { fits = lit< tt })) $
-      first ! $ blocks ! $ loops ! 𝓣 Fewer Fewer-wf (At 𝓣 known-input known-scan known-put-word l₀ l₁ l₂ l₃ l₄ l₅ l₆ l₇ l₈ l₉ l₁₀ l₁₁ l₁₂ l₁₃ l₁₄ l₁₅ l₁₆ l₁₇ l₁₈) (turns 𝓣 known-input known-scan known-put-word l₀ l₁ l₂ l₃ l₄ l₅ l₆ l₇ l₈ l₉ l₁₀ l₁₁ l₁₂ l₁₃ l₁₄ l₁₅ l₁₆ l₁₇ l₁₈) (0, (os₀, (fs₀, (bs₀, (omega arith, (run-start, (refl, (refl, refl)))))))))))))))))))))))))))
+      first ! $ blocks ! $ loops ! 𝓣 Fewer Fewer-wf (At 𝓣 known-word known-scan known-put-word l₀ l₁ l₂ l₃ l₄ l₅ l₆ l₇ l₈ l₉ l₁₀ l₁₁ l₁₂ l₁₃ l₁₄ l₁₅ l₁₆ l₁₇ l₁₈) (turns 𝓣 known-word known-scan known-put-word l₀ l₁ l₂ l₃ l₄ l₅ l₆ l₇ l₈ l₉ l₁₀ l₁₁ l₁₂ l₁₃ l₁₄ l₁₅ l₁₆ l₁₇ l₁₈) (0, (os₀, (fs₀, (bs₀, (omega arith, (run-start, (refl, (refl, refl)))))))))))))))))))))))))))
 
-module _ {M : Type 1} (𝓤 : URA M) (H : Heap 𝓤) (A : Atoms 𝓤) (W : Given 𝓤 H A) (mem : Memory → SProp 𝓤) (run : Routine → Fun 𝓤) (𝓣 : Tables 𝓤 H) (known-input : Triple 𝓤 (𝓣 .C #il·input) (The-input 𝓤 H A mem run)) (known-scan : Triple 𝓤 (𝓣 .C #row·scan) (The-scan 𝓤 H A mem run)) (known-put-word : Triple 𝓤 (𝓣 .C #il·put-word) (The-put-word 𝓤 H A mem run)) where
+module _ {M : Type 1} (𝓤 : URA M) (H : Heap 𝓤) (A : Atoms 𝓤) (W : Given 𝓤 H A) (mem : Memory → SProp 𝓤) (run : Routine → Fun 𝓤) (𝓣 : Tables 𝓤 H) (known-word : Triple 𝓤 (𝓣 .C #slices·word) (The-word 𝓤 H A mem run)) (known-scan : Triple 𝓤 (𝓣 .C #row·scan) (The-scan 𝓤 H A mem run)) (known-put-word : Triple 𝓤 (𝓣 .C #slices·put-word) (The-put-word 𝓤 H A mem run)) where
   walks : Walks 𝓤 H A f.ended stayed (WpFn 𝓤 H (𝓣 .C) (𝓣 .Λ) code.function) (f.clauses 𝓤 H A mem run)
   walks = walked 𝓤 H A f.ended stayed (f.clauses 𝓤 H A mem run) (WpFn 𝓤 H (𝓣 .C) (𝓣 .Λ) code.function) (λ κs. (slice-vals, (uint-vals w32, (slice-vals, (slice-vals, (slice-vals, (slice-vals, tt))))))) (λ κs. (shr-slice-tells (named 0) (κs .0) u32, (uint-tells w32, (shr-slice-tells (named 1) (κs .1 .0) u64, (mut-slice-tells (named 2) (κs .1 .1 .0) u64, (mut-slice-tells (named 3) (κs .1 .1 .1 .0) u8, (mut-slice-tells (named 4) (κs .1 .1 .1 .1 .0) T.the-row, tt)))))))
-      (λ κs qs bounds a g are. via 𝓤 _ (fst∗ 𝓤 _ (emp 𝓤)) (walk 𝓤 H A W mem run (κs .0) (qs .0) (a .0 .ptr .0) (a .0 .ptr .1) (a .0 .name) (a .0 .now) (are .0 .0 .1) (κs .1 .0) (qs .1 .0) (a .1 .1 .0 .ptr .0) (a .1 .1 .0 .ptr .1) (a .1 .1 .0 .name) (a .1 .1 .0 .now) (are .1 .1 .0 .0 .1) (κs .1 .1 .0) (qs .1 .1 .0) (a .1 .1 .1 .0 .ptr .0) (a .1 .1 .1 .0 .ptr .1) (a .1 .1 .1 .0 .name) (a .1 .1 .1 .0 .now) (are .1 .1 .1 .0 .0 .1) (κs .1 .1 .1 .0) (qs .1 .1 .1 .0) (a .1 .1 .1 .1 .0 .ptr .0) (a .1 .1 .1 .1 .0 .ptr .1) (a .1 .1 .1 .1 .0 .name) (a .1 .1 .1 .1 .0 .now) (are .1 .1 .1 .1 .0 .0 .1) (κs .1 .1 .1 .1 .0) (qs .1 .1 .1 .1 .0) (a .1 .1 .1 .1 .1 .0 .ptr .0) (a .1 .1 .1 .1 .1 .0 .ptr .1) (a .1 .1 .1 .1 .1 .0 .name) (a .1 .1 .1 .1 .1 .0 .now) (are .1 .1 .1 .1 .1 .0 .0 .1) (a .1 .0) (refl, are .1 .0 .1) 𝓣 known-input known-scan known-put-word))
+      (λ κs qs bounds a g are. via 𝓤 _ (fst∗ 𝓤 _ (emp 𝓤)) (walk 𝓤 H A W mem run (κs .0) (qs .0) (a .0 .ptr .0) (a .0 .ptr .1) (a .0 .name) (a .0 .now) (are .0 .0 .1) (κs .1 .0) (qs .1 .0) (a .1 .1 .0 .ptr .0) (a .1 .1 .0 .ptr .1) (a .1 .1 .0 .name) (a .1 .1 .0 .now) (are .1 .1 .0 .0 .1) (κs .1 .1 .0) (qs .1 .1 .0) (a .1 .1 .1 .0 .ptr .0) (a .1 .1 .1 .0 .ptr .1) (a .1 .1 .1 .0 .name) (a .1 .1 .1 .0 .now) (are .1 .1 .1 .0 .0 .1) (κs .1 .1 .1 .0) (qs .1 .1 .1 .0) (a .1 .1 .1 .1 .0 .ptr .0) (a .1 .1 .1 .1 .0 .ptr .1) (a .1 .1 .1 .1 .0 .name) (a .1 .1 .1 .1 .0 .now) (are .1 .1 .1 .1 .0 .0 .1) (κs .1 .1 .1 .1 .0) (qs .1 .1 .1 .1 .0) (a .1 .1 .1 .1 .1 .0 .ptr .0) (a .1 .1 .1 .1 .1 .0 .ptr .1) (a .1 .1 .1 .1 .1 .0 .name) (a .1 .1 .1 .1 .1 .0 .now) (are .1 .1 .1 .1 .1 .0 .0 .1) (a .1 .0) (refl, are .1 .0 .1) 𝓣 known-word known-scan known-put-word))
 
   meets : Meets 𝓤 H A f.signature (WpFn 𝓤 H (𝓣 .C) (𝓣 .Λ) code.function) (f.spec 𝓤 H A mem run)
   meets = walk-meets 𝓤 H A f.ended stayed W (goes-none-slice 𝓤 H A W 5 (0 ∷ []) tt (plain (λ _. u32)) yes, (goes-dropped 𝓤 H A W 5 (plain (λ _. u32)) yes (λ κs x f. refl), (goes-none-slice 𝓤 H A W 5 (1 ∷ []) tt (plain (λ _. u64)) yes, (goes-slice 𝓤 H A W 5 2 tt (plain (λ _. u64)), (goes-slice 𝓤 H A W 5 3 tt (plain (λ _. u8)), (goes-slice 𝓤 H A W 5 4 tt (plain (λ _. T.the-row)), tt)))))) (f.clauses 𝓤 H A mem run) (WpFn 𝓤 H (𝓣 .C) (𝓣 .Λ) code.function) (WpFn-mono 𝓤 H (W .laws) 𝓣 code.function) walks
@@ -606,6 +606,6 @@ run-spec 𝓤 H 𝓜 𝓖 𝓡 =
     entered 𝓤 H (tripleOf 𝓤 H (𝓖 .A) f.signature (f.spec 𝓤 H (𝓖 .A) (𝓜 .mem) (𝓡 .run)))
     (tables 𝓤 H 𝓜 𝓡 code.env .C) (tables 𝓤 H 𝓜 𝓡 code.env .Λ) #row·run code.function (code.unfolded 𝓤 H 𝓜 𝓡)
     (meets 𝓤 H (𝓖 .A) (givenOf 𝓤 H 𝓜 𝓖) (𝓜 .mem) (𝓡 .run) (tablesOf 𝓤 H 𝓜 (tables 𝓤 H 𝓜 𝓡 code.env))
-    (cited 𝓤 H (The-input 𝓤 H (𝓖 .A) (𝓜 .mem) (𝓡 .run)) 𝓜 𝓡 code.env #il·input input-def.routine code.calls-il·input (input-thm.met 𝓤 H 𝓜 𝓖 𝓡))
+    (cited 𝓤 H (The-word 𝓤 H (𝓖 .A) (𝓜 .mem) (𝓡 .run)) 𝓜 𝓡 code.env #slices·word word-def.routine code.calls-slices·word (word-thm.met 𝓤 H 𝓜 𝓖 𝓡))
     (cited 𝓤 H (The-scan 𝓤 H (𝓖 .A) (𝓜 .mem) (𝓡 .run)) 𝓜 𝓡 code.env #row·scan scan-def.routine code.calls-row·scan (scan-thm.met 𝓤 H 𝓜 𝓖 𝓡))
-    (cited 𝓤 H (The-put-word 𝓤 H (𝓖 .A) (𝓜 .mem) (𝓡 .run)) 𝓜 𝓡 code.env #il·put-word put-word-def.routine code.calls-il·put-word (put-word-thm.met 𝓤 H 𝓜 𝓖 𝓡)))
+    (cited 𝓤 H (The-put-word 𝓤 H (𝓖 .A) (𝓜 .mem) (𝓡 .run)) 𝓜 𝓡 code.env #slices·put-word put-word-def.routine code.calls-slices·put-word (put-word-thm.met 𝓤 H 𝓜 𝓖 𝓡)))

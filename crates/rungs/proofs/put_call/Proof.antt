@@ -12,51 +12,39 @@ use Rattle.rungs.proofs.put_call.Lts as lts
 use Rattle.spelling.proofs.put_on_block.Reads as put-on-block-reads
 use Rattle.spelling.proofs.put_time.Reads as put-time-reads
 
--- src/lib.rt:163:45
 slice-aggregate-put-on-block : tie.Need-slice-aggregate-put-on-block
 slice-aggregate-put-on-block c = search needs
 
--- src/lib.rt:163:56
 slice-aggregate-put-on-block-2 : tie.Need-slice-aggregate-put-on-block-2
 slice-aggregate-put-on-block-2 c = search needs
 
--- src/lib.rt:163:9
 put-on-block-requires : tie.Need-put-on-block-requires
 put-on-block-requires c κs = search needs
 
--- src/lib.rt:164:9
 put-time-requires : tie.Need-put-time-requires
 put-time-requires c κs = search needs
 
--- src/lib.rt:165:47
 slice-aggregate-put-on-block-3 : tie.Need-slice-aggregate-put-on-block-3
 slice-aggregate-put-on-block-3 c = search needs
 
--- src/lib.rt:165:58
 slice-aggregate-put-on-block-4 : tie.Need-slice-aggregate-put-on-block-4
 slice-aggregate-put-on-block-4 c = search needs
 
--- src/lib.rt:165:9
 put-on-block-requires-2 : tie.Need-put-on-block-requires-2
 put-on-block-requires-2 c κs = search needs
 
--- src/lib.rt:166:39
 slice-aggregate-put-on-block-5 : tie.Need-slice-aggregate-put-on-block-5
 slice-aggregate-put-on-block-5 c = search needs
 
--- src/lib.rt:166:51
 slice-aggregate-put-on-block-6 : tie.Need-slice-aggregate-put-on-block-6
 slice-aggregate-put-on-block-6 c = search needs
 
--- src/lib.rt:166:5
 put-on-block-requires-3 : tie.Need-put-on-block-requires-3
 put-on-block-requires-3 c κs = search needs
 
--- src/lib.rt:160:1
 same-length : tie.Need-same-length
 same-length c = search needs
 
--- src/lib.rt:160:1
 returns : tie.Need-returns
 unfolding line operatorText operandText
 returns c =

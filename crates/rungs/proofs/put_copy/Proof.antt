@@ -17,47 +17,36 @@ use Rattle.rungs.proofs.put_copy.Lts as lts
 use Rattle.lines.proofs.put_part.Reads as put-part-reads
 use Rattle.spelling.proofs.put_mx.Reads as put-mx-reads
 
--- src/lib.rt:152:16
 add-copy : tie.Need-add-copy
 add-copy c = search needs
 
--- src/lib.rt:153:38
 slice-aggregate-put-part : tie.Need-slice-aggregate-put-part
 slice-aggregate-put-part c = search needs
 
--- src/lib.rt:153:9
 put-part-requires : tie.Need-put-part-requires
 put-part-requires c κs = search needs
 
--- src/lib.rt:154:38
 cast-put-mx : tie.Need-cast-put-mx
 cast-put-mx c = search needs
 
--- src/lib.rt:154:9
 put-mx-requires : tie.Need-put-mx-requires
 put-mx-requires c κs = search needs
 
--- src/lib.rt:155:40
 slice-aggregate-put-part-2 : tie.Need-slice-aggregate-put-part-2
 slice-aggregate-put-part-2 c = search needs
 
--- src/lib.rt:155:9
 put-part-requires-2 : tie.Need-put-part-requires-2
 put-part-requires-2 c κs = search needs
 
--- src/lib.rt:156:33
 cast-put-mx-2 : tie.Need-cast-put-mx-2
 cast-put-mx-2 c = search needs
 
--- src/lib.rt:156:5
 put-mx-requires-2 : tie.Need-put-mx-requires-2
 put-mx-requires-2 c κs = search needs
 
--- src/lib.rt:149:1
 same-length : tie.Need-same-length
 same-length c = search needs
 
--- src/lib.rt:149:1
 returns : tie.Need-returns
 unfolding line operatorText
 returns c c' e h =

@@ -5,45 +5,36 @@ use borrow.Author.Needs.{needs}
 use Rattle.runs.proofs.run_chart.Statement.{statement}
 use Rattle.runs.proofs.run_chart.Tie as tie
 
--- src/lib.rt:25:9
 check-requires : tie.Need-check-requires
 check-requires c κs = search needs
 
--- src/lib.rt:27:26
 enum-known-v : tie.Need-enum-known-v
 enum-known-v c = search needs
 
--- src/lib.rt:35:13
 enum-told : tie.Need-enum-told
 enum-told c = search needs
 
--- src/lib.rt:28:30
 run-checked-requires : tie.Need-run-checked-requires
 run-checked-requires c κs = search needs
 
--- src/lib.rt:10:1
 returns : tie.Need-returns
 returns c = refused-tables _ _ _ _ _ _ (sym (c .before .before .before .check .ensures) ∙ c .before .v .given .1)
 
--- src/lib.rt:10:1
 same-length : tie.Need-same-length
 same-length c = search needs
 
--- src/lib.rt:10:1
 same-length-2 : tie.Need-same-length-2
 same-length-2 c = search needs
 
--- src/lib.rt:10:1
 same-length-3 : tie.Need-same-length-3
 same-length-3 c = search needs
 
--- src/lib.rt:10:1
 returns-2 : tie.Need-returns-2
 returns-2 c =
     let e = sym (c .before .before .before .before .before .before .before .before .before .before .before .before .check .ensures) ∙ c .before .before .before .before .before .before .before .before .before .before .enum-told .given .1 in
     accepted-tables _ _ _ _ _ _ _ _ _ e
     (c .before .before .before .before .before .before .run-checked .ensures _
-    (record { step = refl; outputs = refl; states = refl; moves = refl; presets = refl; timerPairs = refl; outputPairs = refl })
+    (record { step = refl; outputs = refl; lent = record { states = refl; moves = refl; presets = refl; timerPairs = refl; outputPairs = refl } })
     (accepted-exactly _ .0 e))
 
 pub run-chart-spec : {M : Type 1} → statement M

@@ -1,12 +1,12 @@
 use mathlib.Core.Path.{_≡_}
 use mathlib.Core.List.{flatMap}
-use Prim.Native.Nat.{suc, _+_, _-_, _≤_, _<_}
+use Prim.Native.Nat.{_+_, _-_, _≤_, _<_}
 use native.Mathlib.Numerals.{add-one}
 use native.Mathlib.Omega.{arith}
 use lib.ListN.{length}
 use Rattle.meaning.specs.Rows.{table}
 use Rattle.lines.specs.Fit.{Fit}
-use Rattle.bits.specs.Sent.{lines, laid, Drawn}
+use Rattle.bits.specs.Sent.{lines}
 use Rattle.bits.specs.SentLaws.{put-lines, put-nil}
 use Rattle.meaning.specs.Tables.{Tables}
 use Rattle.meaning.specs.Layout.{flipFlops}

@@ -19,31 +19,24 @@ use Rattle.bodies.proofs.put_pairs.Reads as put-pairs-reads
 use Rattle.lines.proofs.put_part.Reads as put-part-reads
 use Rattle.spelling.proofs.put_qx.Reads as put-qx-reads
 
--- src/lib.rt:122:9
 put-pairs-requires : tie.Need-put-pairs-requires
 put-pairs-requires c κs = search needs
 
--- src/lib.rt:134:43
 slice-aggregate-put-part : tie.Need-slice-aggregate-put-part
 slice-aggregate-put-part c = search needs
 
--- src/lib.rt:134:9
 put-part-requires : tie.Need-put-part-requires
 put-part-requires c κs = search needs
 
--- src/lib.rt:135:39
 cast-put-qx : tie.Need-cast-put-qx
 cast-put-qx c = search needs
 
--- src/lib.rt:135:9
 put-qx-requires : tie.Need-put-qx-requires
 put-qx-requires c κs = search needs
 
--- src/lib.rt:108:1
 same-length : tie.Need-same-length
 same-length c = search needs
 
--- src/lib.rt:108:1
 returns : tie.Need-returns
 unfolding line operatorText
 returns c c' d e F h =

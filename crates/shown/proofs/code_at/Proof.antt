@@ -2,7 +2,6 @@ use mathlib.Core.Path.{_≡_, sym, _∙_}
 use mathlib.Core.Bool.{true, false}
 use Prim.Native.Nat.{_≤_, _<_, _+_, _-_}
 use native.Mathlib.Omega.{arith}
-use borrow.Author.Needs.{needs}
 use Rattle.meaning.specs.Rows.{table}
 use Rattle.meaning.specs.Machine.{wordOf}
 use Rattle.meaning.specs.Scan.{flipFlopOn}
@@ -12,7 +11,7 @@ use Rattle.shown.proofs.code_at.Statement.{statement}
 use Rattle.shown.proofs.code_at.Tie as tie
 use Rattle.shown.proofs.code_at.Reads as reads
 use Rattle.shown.proofs.code_at.Lts as lts
-use Rattle.paths.proofs.flag.Reads as flag-reads
+use Rattle.values.proofs.flip_flop.Reads as flip-flop-reads
 
 abbrev Inv-loop : tie.InvT-loop
 Inv-loop flip-flops first width code₀ i₀ code i = (i ≤ width) × (width ≤ 8) × (code < 256) × (code ≡ codeAt flip-flops (first + i) (width - i))
@@ -20,62 +19,50 @@ Inv-loop flip-flops first width code₀ i₀ code i = (i ≤ width) × (width �
 abbrev μ-loop : tie.MeasureT-loop
 μ-loop flip-flops first width code₀ i₀ code i = i
 
--- src/lib.rt:16:9
 returns : tie.Need-returns Inv-loop μ-loop
 returns c h = absurd (omega arith)
 
--- src/lib.rt:20:5
 loop-holds : tie.Need-loop-holds Inv-loop μ-loop
 unfolding codeAt wordOf table
 loop-holds c = let n = c .before .before .args .width in let z : n - n ≡ 0 = omega arith in (omega arith, omega arith, omega arith, rw z)
 
--- src/lib.rt:21:9
 sub-i : tie.Need-sub-i Inv-loop μ-loop
 sub-i c = omega arith
 
--- src/lib.rt:22:9
 mul-code : tie.Need-mul-code Inv-loop μ-loop
 mul-code c = omega arith
 
--- src/lib.rt:23:36
-add-flag : tie.Need-add-flag Inv-loop μ-loop
-add-flag c = omega arith
+add-flip-flop : tie.Need-add-flip-flop Inv-loop μ-loop
+add-flip-flop c = omega arith
 
--- src/lib.rt:23:12
-flag-requires : tie.Need-flag-requires Inv-loop μ-loop
-flag-requires c κs = tt
+flip-flop-requires : tie.Need-flip-flop-requires Inv-loop μ-loop
+flip-flop-requires c κs = tt
 
--- src/lib.rt:24:13
 add-code : tie.Need-add-code Inv-loop μ-loop
 add-code c = omega arith
 
--- src/lib.rt:20:5
 loop-less : tie.Need-loop-less Inv-loop μ-loop
 loop-less c = omega arith
 
--- src/lib.rt:20:5
 loop-again : tie.Need-loop-again Inv-loop μ-loop
 unfolding flipFlopOn
 loop-again c =
     let a = c .before .before .before .before .before .before .args in
     let b = c .before .before .before .loop in
-    let e = code-more (a .flip-flops .now) (a .first) (b .i) (a .width) (b .code) (omega arith) (b .inv .0) (b .inv .3) true (sym (c .before .flag .ensures) ∙ c .if2 .taken) in
+    let e = code-more (a .flip-flops .now) (a .first) (b .i) (a .width) (b .code) (omega arith) (b .inv .0) (b .inv .3) true (sym (c .before .flip-flop .ensures) ∙ c .if2 .taken) in
     (omega arith, b .inv .1, omega (arith, e, code-small (a .flip-flops .now) (a .first + (b .i - 1)) (a .width - (b .i - 1)) (omega arith)), omega (arith, e))
 
--- src/lib.rt:20:5
 loop-less-2 : tie.Need-loop-less-2 Inv-loop μ-loop
 loop-less-2 c = omega arith
 
--- src/lib.rt:20:5
 loop-again-2 : tie.Need-loop-again-2 Inv-loop μ-loop
 unfolding flipFlopOn
 loop-again-2 c =
     let a = c .before .before .before .before .before .before .args in
     let b = c .before .before .before .loop in
-    let e = code-more (a .flip-flops .now) (a .first) (b .i) (a .width) (b .code) (omega arith) (b .inv .0) (b .inv .3) false (sym (c .before .flag .ensures) ∙ c .if2 .left) in
+    let e = code-more (a .flip-flops .now) (a .first) (b .i) (a .width) (b .code) (omega arith) (b .inv .0) (b .inv .3) false (sym (c .before .flip-flop .ensures) ∙ c .if2 .left) in
     (omega arith, b .inv .1, omega (arith, e, code-small (a .flip-flops .now) (a .first + (b .i - 1)) (a .width - (b .i - 1)) (omega arith)), omega (arith, e))
 
--- src/lib.rt:12:1
 returns-2 : tie.Need-returns-2 Inv-loop μ-loop
 returns-2 c h =
     let a = c .before .before .before .before .args in
@@ -94,8 +81,8 @@ code-at-spec =
     loop-holds
     sub-i
     mul-code
-    add-flag
-    flag-requires
+    add-flip-flop
+    flip-flop-requires
     add-code
     loop-less
     loop-again

@@ -22,15 +22,12 @@ Inv-loop states laid flip-flops s₀ k₀ s k =
 abbrev μ-loop : tie.MeasureT-loop
 μ-loop states laid flip-flops s₀ k₀ s k = 8 - k
 
--- src/lib.rt:48:5
 loop-holds : tie.Need-loop-holds Inv-loop μ-loop
 loop-holds c = (omega arith, λ c' e R o. (shown-start c' R (c .before .before .args .flip-flops .now), omega arith))
 
--- src/lib.rt:49:12
 initial-requires : tie.Need-initial-requires Inv-loop μ-loop
 initial-requires c κs = tt
 
--- src/lib.rt:50:13
 returns : tie.Need-returns Inv-loop μ-loop
 returns c c' e R o =
     let b = c .before .before .before .loop in
@@ -38,19 +35,15 @@ returns c c' e R o =
     let i = b .inv .1 c' e R o in
     (sym (shown-stops c' R fs (8 - b .k) (b .s) (sym (c .before .initial .ensures c' e) ∙ c .if1 .taken)) ∙ i .0, i .1)
 
--- src/lib.rt:52:9
 shown-sub-state-requires : tie.Need-shown-sub-state-requires Inv-loop μ-loop
 shown-sub-state-requires c κs = tt
 
--- src/lib.rt:53:9
 add-k : tie.Need-add-k Inv-loop μ-loop
 add-k c = omega arith
 
--- src/lib.rt:48:5
 loop-less : tie.Need-loop-less Inv-loop μ-loop
 loop-less c = omega arith
 
--- src/lib.rt:48:5
 loop-again : tie.Need-loop-again Inv-loop μ-loop
 loop-again c =
     let b = c .before .before .before .before .loop in
@@ -64,7 +57,6 @@ loop-again c =
           rw r (sym (shown-goes c' R fs (8 - (b .k + 1)) (b .s) n) ∙ (rw z at (i .0)), sub-most c' R fs (b .s)),
     )
 
--- src/lib.rt:43:1
 returns-2 : tie.Need-returns-2 Inv-loop μ-loop
 unfolding descend
 returns-2 c c' e R o =

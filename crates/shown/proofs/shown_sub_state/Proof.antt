@@ -15,31 +15,24 @@ use Rattle.shown.proofs.shown_sub_state.Lts as lts
 use Rattle.layout.proofs.sub_with_code.Reads as sub-with-code-reads
 use Rattle.shown.proofs.code_at.Reads as code-at-reads
 
--- src/lib.rt:35:9
 returns : tie.Need-returns
 returns c c' e R o h = absurd (omega (arith, R .size .fewStates))
 
--- src/lib.rt:37:17
 mul-first : tie.Need-mul-first
 mul-first c = search needs
 
--- src/lib.rt:37:17
 element-copy-out-first : tie.Need-element-copy-out-first
 element-copy-out-first c = search needs
 
--- src/lib.rt:38:17
 element-copy-out-width : tie.Need-element-copy-out-width
 element-copy-out-width c = search needs
 
--- src/lib.rt:39:38
 code-at-requires : tie.Need-code-at-requires
 code-at-requires c κs = search needs
 
--- src/lib.rt:39:5
 sub-with-code-requires : tie.Need-sub-with-code-requires
 sub-with-code-requires c κs = search needs
 
--- src/lib.rt:31:1
 returns-2 : tie.Need-returns-2
 unfolding shownSubState
 returns-2 c c' e R o h =

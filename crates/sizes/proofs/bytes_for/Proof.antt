@@ -6,91 +6,71 @@ use Rattle.sizes.proofs.bytes_for.Tie as tie
 use Rattle.sizes.proofs.bytes_for.Reads as reads
 use Rattle.sizes.proofs.bytes_for.Lts as lts
 
--- src/lib.rt:15:21
 enum-known-o : tie.Need-enum-known-o
 enum-known-o c = search needs
 
--- src/lib.rt:15:27
 cast-result : tie.Need-cast-result
 cast-result c = search needs
 
--- src/lib.rt:15:27
 add-result : tie.Need-add-result
 add-result c = search needs
 
--- src/lib.rt:16:27
 enum-told : tie.Need-enum-told
 enum-told c = search needs
 
--- src/lib.rt:17:27
 enum-told-2 : tie.Need-enum-told-2
 enum-told-2 c = search needs
 
--- src/lib.rt:18:31
 enum-told-3 : tie.Need-enum-told-3
 enum-told-3 c = search needs
 
--- src/lib.rt:19:32
 enum-told-4 : tie.Need-enum-told-4
 enum-told-4 c = search needs
 
--- src/lib.rt:20:32
 enum-told-5 : tie.Need-enum-told-5
 enum-told-5 c = search needs
 
--- src/lib.rt:21:30
 enum-told-6 : tie.Need-enum-told-6
 enum-told-6 c = search needs
 
--- src/lib.rt:22:27
 enum-told-7 : tie.Need-enum-told-7
 enum-told-7 c = search needs
 
--- src/lib.rt:23:26
 enum-told-8 : tie.Need-enum-told-8
 enum-told-8 c = search needs
 
--- src/lib.rt:11:1
 returns : tie.Need-returns
 unfolding bytesFor
 returns c = rw (c .before .o .given .1) (omega arith)
 
--- src/lib.rt:11:1
 returns-2 : tie.Need-returns-2
 unfolding bytesFor
 returns-2 c = rw (c .enum-told .given .1)
 
--- src/lib.rt:11:1
 returns-3 : tie.Need-returns-3
 unfolding bytesFor
 returns-3 c = rw (c .enum-told2 .given .1)
 
--- src/lib.rt:11:1
 returns-4 : tie.Need-returns-4
 unfolding bytesFor
 returns-4 c = rw (c .enum-told3 .given .1)
 
--- src/lib.rt:11:1
 returns-5 : tie.Need-returns-5
 unfolding bytesFor
 returns-5 c = rw (c .enum-told4 .given .1)
 
--- src/lib.rt:11:1
 returns-6 : tie.Need-returns-6
 unfolding bytesFor
 returns-6 c = rw (c .enum-told5 .given .1)
 
--- src/lib.rt:11:1
 returns-7 : tie.Need-returns-7
 unfolding bytesFor
 returns-7 c = rw (c .enum-told6 .given .1)
 
--- src/lib.rt:11:1
 returns-8 : tie.Need-returns-8
 unfolding bytesFor
 returns-8 c = rw (c .enum-told7 .given .1)
 
--- src/lib.rt:11:1
 returns-9 : tie.Need-returns-9
 unfolding bytesFor
 returns-9 c = rw (c .enum-told8 .given .1)

@@ -7,28 +7,22 @@ use Rattle.sizes.proofs.bytes_in.Lts as lts
 use Rattle.sizes.proofs.bytes_for.Reads as bytes-for-reads
 use Rattle.sizes.proofs.carried_by.Reads as carried-by-reads
 
--- src/lib.rt:49:24
 enum-known-d : tie.Need-enum-known-d
 enum-known-d c = search needs
 
--- src/lib.rt:49:40
 carried-by-requires : tie.Need-carried-by-requires
 carried-by-requires c κs = search needs
 
--- src/lib.rt:49:30
 bytes-for-requires : tie.Need-bytes-for-requires
 bytes-for-requires c κs = search needs
 
--- src/lib.rt:50:29
 enum-told : tie.Need-enum-told
 enum-told c = search needs
 
--- src/lib.rt:45:1
 returns : tie.Need-returns
 unfolding bytesIn
 returns c = rw (c .before .before .before .d .given .1, c .bytes-for .ensures, c .before .carried-by .ensures)
 
--- src/lib.rt:45:1
 returns-2 : tie.Need-returns-2
 unfolding bytesIn
 returns-2 c = rw (c .enum-told .given .1)

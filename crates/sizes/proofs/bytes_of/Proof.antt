@@ -12,33 +12,26 @@ use Rattle.sizes.proofs.bytes_of.Lts as lts
 use Rattle.sizes.proofs.bytes_in.Reads as bytes-in-reads
 use Rattle.decode.proofs.decode.Reads as decode-reads
 
--- src/lib.rt:66:24
 cast-result : tie.Need-cast-result
 cast-result c = search needs
 
--- src/lib.rt:66:24
 add-result : tie.Need-add-result
 add-result c = search needs
 
--- src/lib.rt:66:17
 returns : tie.Need-returns
 unfolding decoded
 returns c = let a = c .before .before .before .args in rw add-one (bytes-tested (a .w / 134217728) (a .w % 134217728) (omega arith) (omega arith) (omega arith))
 
--- src/lib.rt:71:28
 cast-result-2 : tie.Need-cast-result-2
 cast-result-2 c = search needs
 
--- src/lib.rt:71:28
 add-result-2 : tie.Need-add-result-2
 add-result-2 c = search needs
 
--- src/lib.rt:71:21
 returns-2 : tie.Need-returns-2
 unfolding decoded
 returns-2 c = let a = c .before .before .before .before .args in rw add-one (bytes-stored (a .w / 134217728) (a .w % 134217728) (omega arith) (omega arith) (omega arith))
 
--- src/lib.rt:75:21
 returns-3 : tie.Need-returns-3
 unfolding decoded
 returns-3 c =
@@ -46,15 +39,12 @@ returns-3 c =
     let m : a .w % 134217728 ≡ 0 = omega arith in
     rw m (bytes-bracket (a .w / 134217728) (omega arith) (omega arith))
 
--- src/lib.rt:80:14
 decode-requires : tie.Need-decode-requires
 decode-requires c κs = search needs
 
--- src/lib.rt:80:5
 bytes-in-requires : tie.Need-bytes-in-requires
 bytes-in-requires c κs = search needs
 
--- src/lib.rt:58:1
 returns-4 : tie.Need-returns-4
 returns-4 c = rw (← c .before .decode .ensures) (c .bytes-in .ensures)
 

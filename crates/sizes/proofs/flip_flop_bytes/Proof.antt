@@ -17,31 +17,24 @@ Inv-loop words most₀ i₀ most i = max most (bytesNamed (drop i words)) ≡ by
 abbrev μ-loop : tie.MeasureT-loop
 μ-loop words most₀ i₀ most i = length words - i
 
--- src/lib.rt:89:5
 loop-holds : tie.Need-loop-holds Inv-loop μ-loop
 loop-holds c = omega arith
 
--- src/lib.rt:90:26
 mul-bytes-of : tie.Need-mul-bytes-of Inv-loop μ-loop
 mul-bytes-of c = search needs
 
--- src/lib.rt:90:26
 shared-slice-read-bytes-of : tie.Need-shared-slice-read-bytes-of Inv-loop μ-loop
 shared-slice-read-bytes-of c = omega arith
 
--- src/lib.rt:90:13
 bytes-of-requires : tie.Need-bytes-of-requires Inv-loop μ-loop
 bytes-of-requires c κs = tt
 
--- src/lib.rt:94:9
 add-i : tie.Need-add-i Inv-loop μ-loop
 add-i c = omega arith
 
--- src/lib.rt:89:5
 loop-less : tie.Need-loop-less Inv-loop μ-loop
 loop-less c = omega arith
 
--- src/lib.rt:89:5
 loop-again : tie.Need-loop-again Inv-loop μ-loop
 loop-again c =
     let l = c .before .before .before .before .loop in
@@ -49,7 +42,6 @@ loop-again c =
     let o = bytes-on (c .before .before .before .before .before .before .args .words .now) (l .i) (omega arith) in
     ⊎-elim (λ w. omega (arith, n, o, l .inv)) (λ w. omega (arith, n, o, l .inv)) (c .if1 .came)
 
--- src/lib.rt:84:1
 returns : tie.Need-returns Inv-loop μ-loop
 returns c =
     let l = c .before .loop in

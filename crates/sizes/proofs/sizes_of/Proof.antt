@@ -9,31 +9,24 @@ use Rattle.sizes.proofs.sizes_of.Lts as lts
 use Rattle.phases.proofs.words_pass.Reads as words-pass-reads
 use Rattle.sizes.proofs.flip_flop_bytes.Reads as flip-flop-bytes-reads
 
--- src/lib.rt:147:9
 words-pass-requires : tie.Need-words-pass-requires
 words-pass-requires c κs = search needs
 
--- src/lib.rt:149:26
 enum-known-passed : tie.Need-enum-known-passed
 enum-known-passed c = search needs
 
--- src/lib.rt:150:25
 flip-flop-bytes-requires : tie.Need-flip-flop-bytes-requires
 flip-flop-bytes-requires c κs = search needs
 
--- src/lib.rt:151:21
 cast-t7 : tie.Need-cast-t7
 cast-t7 c = search needs
 
--- src/lib.rt:153:25
 enum-known-passed-2 : tie.Need-enum-known-passed-2
 enum-known-passed-2 c = search needs
 
--- src/lib.rt:144:1
 returns : tie.Need-returns
 returns c = sizes-told (rw (c .before .before .passed .given .1) at (c .before .before .before .before .words-pass .ensures)) (c .flip-flop-bytes .ensures)
 
--- src/lib.rt:144:1
 returns-2 : tie.Need-returns-2
 returns-2 c = SizesTold.refused _ (rw (c .before .passed2 .given .1) at (c .before .before .before .words-pass .ensures)) refl
 

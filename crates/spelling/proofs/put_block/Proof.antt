@@ -9,31 +9,24 @@ use Rattle.spelling.proofs.put_block.Lts as lts
 use Rattle.lines.proofs.put_decimal.Reads as put-decimal-reads
 use Rattle.lines.proofs.put_part.Reads as put-part-reads
 
--- src/lib.rt:225:31
 slice-aggregate-put-part : tie.Need-slice-aggregate-put-part
 slice-aggregate-put-part c = search needs
 
--- src/lib.rt:225:9
 put-part-requires : tie.Need-put-part-requires
 put-part-requires c κs = search needs
 
--- src/lib.rt:226:9
 put-decimal-requires : tie.Need-put-decimal-requires
 put-decimal-requires c κs = search needs
 
--- src/lib.rt:227:22
 slice-aggregate-put-part-2 : tie.Need-slice-aggregate-put-part-2
 slice-aggregate-put-part-2 c = search needs
 
--- src/lib.rt:227:5
 put-part-requires-2 : tie.Need-put-part-requires-2
 put-part-requires-2 c κs = search needs
 
--- src/lib.rt:222:1
 same-length : tie.Need-same-length
 same-length c = search needs
 
--- src/lib.rt:222:1
 returns : tie.Need-returns
 unfolding blockLine line
 returns c = simp append-assoc (fit-fit (c .before .before .before .before .before .before .before .before .before .before .before .put-part .ensures) (fit-fit (put-fit (c .before .before .before .before .before .before .before .put-decimal .ensures)) (c .before .before .put-part2 .ensures)))

@@ -19,35 +19,28 @@ Inv-loop out₀ at d n₀ p₀ out n p = (n ≤ d) × Fit out₀ at (flatMap blo
 abbrev μ-loop : tie.MeasureT-loop
 μ-loop out₀ at d n₀ p₀ out n p = d - n
 
--- src/lib.rt:122:5
 loop-holds : tie.Need-loop-holds Inv-loop μ-loop
 unfolding flatMap table
 loop-holds c = (omega arith, fit-none _ _ (omega arith) (omega arith))
 
--- src/lib.rt:123:9
 add-n : tie.Need-add-n Inv-loop μ-loop
 add-n c = omega arith
 
--- src/lib.rt:124:9
 put-block-requires : tie.Need-put-block-requires Inv-loop μ-loop
 put-block-requires c κs = tt
 
--- src/lib.rt:122:5
 loop-less : tie.Need-loop-less Inv-loop μ-loop
 loop-less c = omega arith
 
--- src/lib.rt:122:5
 loop-again : tie.Need-loop-again Inv-loop μ-loop
 loop-again c =
     let n : ℕ = c .before .before .before .before .before .loop .n in
     let e : 1 + n ≡ n + 1 = omega arith in
     (omega arith, rw (add-one, rows-snoc blockLine 1 n, e) (fit-fit (c .before .before .before .before .before .loop .inv .1) (c .before .before .put-block .ensures)))
 
--- src/lib.rt:117:1
 same-length : tie.Need-same-length Inv-loop μ-loop
 same-length c = c .before .loop .inv .1 .long
 
--- src/lib.rt:117:1
 returns : tie.Need-returns Inv-loop μ-loop
 returns c =
     let e : c .before .loop .n ≡ c .before .before .before .args .d = omega arith in

@@ -6,19 +6,15 @@ use Rattle.spelling.proofs.put_end.Reads as reads
 use Rattle.spelling.proofs.put_end.Lts as lts
 use Rattle.lines.proofs.put_part.Reads as put-part-reads
 
--- src/lib.rt:259:23
 slice-aggregate-put-part : tie.Need-slice-aggregate-put-part
 slice-aggregate-put-part c = search needs
 
--- src/lib.rt:259:5
 put-part-requires : tie.Need-put-part-requires
 put-part-requires c κs = search needs
 
--- src/lib.rt:256:1
 same-length : tie.Need-same-length
 same-length c = search needs
 
--- src/lib.rt:256:1
 returns : tie.Need-returns
 unfolding line
 returns c = c .before .before .put-part .ensures

@@ -12,50 +12,39 @@ use Rattle.spelling.proofs.put_head.Lts as lts
 use Rattle.spelling.proofs.put_blocks.Reads as put-blocks-reads
 use Rattle.lines.proofs.put_part.Reads as put-part-reads
 
--- src/lib.rt:133:32
 slice-aggregate-put-part : tie.Need-slice-aggregate-put-part
 slice-aggregate-put-part c = search needs
 
--- src/lib.rt:133:9
 put-part-requires : tie.Need-put-part-requires
 put-part-requires c κs = search needs
 
--- src/lib.rt:135:9
 same-length : tie.Need-same-length
 same-length c = search needs
 
--- src/lib.rt:135:9
 returns : tie.Need-returns
 unfolding line declarations
 returns c =
     let e : c .before .before .before .before .before .before .before .args .d ≡ 0 = omega arith in
     rw e (c .before .before .before .put-part .ensures)
 
--- src/lib.rt:137:31
 slice-aggregate-put-part-2 : tie.Need-slice-aggregate-put-part-2
 slice-aggregate-put-part-2 c = search needs
 
--- src/lib.rt:137:9
 put-part-requires-2 : tie.Need-put-part-requires-2
 put-part-requires-2 c κs = search needs
 
--- src/lib.rt:138:9
 put-blocks-requires : tie.Need-put-blocks-requires
 put-blocks-requires c κs = search needs
 
--- src/lib.rt:139:23
 slice-aggregate-put-part-3 : tie.Need-slice-aggregate-put-part-3
 slice-aggregate-put-part-3 c = search needs
 
--- src/lib.rt:139:5
 put-part-requires-3 : tie.Need-put-part-requires-3
 put-part-requires-3 c κs = search needs
 
--- src/lib.rt:130:1
 same-length-2 : tie.Need-same-length-2
 same-length-2 c = search needs
 
--- src/lib.rt:130:1
 returns-2 : tie.Need-returns-2
 unfolding line
 returns-2 c =

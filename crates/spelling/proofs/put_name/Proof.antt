@@ -11,63 +11,48 @@ use Rattle.lines.proofs.put.Reads as put-reads
 use Rattle.lines.proofs.put_decimal.Reads as put-decimal-reads
 use Rattle.lines.proofs.put_part.Reads as put-part-reads
 
--- src/lib.rt:150:26
 digit-requires : tie.Need-digit-requires
 digit-requires c κs = search needs
 
--- src/lib.rt:151:34
 slice-aggregate-put-part : tie.Need-slice-aggregate-put-part
 slice-aggregate-put-part c = search needs
 
--- src/lib.rt:151:9
 put-part-requires : tie.Need-put-part-requires
 put-part-requires c κs = search needs
 
--- src/lib.rt:151:9
 same-length : tie.Need-same-length
 same-length c = search needs
 
--- src/lib.rt:151:9
 returns : tie.Need-returns
 returns c = rw (one-digit (c .before .before .before .before .before .before .before .before .args .n) (omega arith), ← c .before .before .before .before .before .digit .ensures) (c .before .before .put-part .ensures)
 
--- src/lib.rt:154:26
 digit-requires-2 : tie.Need-digit-requires-2
 digit-requires-2 c κs = search needs
 
--- src/lib.rt:154:41
 digit-requires-3 : tie.Need-digit-requires-3
 digit-requires-3 c κs = search needs
 
--- src/lib.rt:155:34
 slice-aggregate-put-part-2 : tie.Need-slice-aggregate-put-part-2
 slice-aggregate-put-part-2 c = search needs
 
--- src/lib.rt:155:9
 put-part-requires-2 : tie.Need-put-part-requires-2
 put-part-requires-2 c κs = search needs
 
--- src/lib.rt:155:9
 same-length-2 : tie.Need-same-length-2
 same-length-2 c = search needs
 
--- src/lib.rt:155:9
 returns-2 : tie.Need-returns-2
 returns-2 c = rw (two-digits (c .before .before .before .before .before .before .before .before .before .before .args .n) (omega arith) (omega arith), ← c .before .before .before .before .before .before .digit2 .ensures, ← c .before .before .before .before .before .digit3 .ensures) (c .before .before .put-part2 .ensures)
 
--- src/lib.rt:157:9
 put-requires : tie.Need-put-requires
 put-requires c κs = search needs
 
--- src/lib.rt:158:5
 put-decimal-requires : tie.Need-put-decimal-requires
 put-decimal-requires c κs = search needs
 
--- src/lib.rt:146:1
 same-length-3 : tie.Need-same-length-3
 same-length-3 c = search needs
 
--- src/lib.rt:146:1
 returns-3 : tie.Need-returns-3
 returns-3 c = fit-fit (put-fit (c .before .before .before .before .before .before .put .ensures)) (put-fit (c .before .before .put-decimal .ensures))
 

@@ -7,19 +7,15 @@ use Rattle.spelling.proofs.put_named.Lts as lts
 use Rattle.spelling.proofs.put_name.Reads as put-name-reads
 use Rattle.lines.proofs.put_part.Reads as put-part-reads
 
--- src/lib.rt:165:9
 put-name-requires : tie.Need-put-name-requires
 put-name-requires c κs = search needs
 
--- src/lib.rt:166:5
 put-part-requires : tie.Need-put-part-requires
 put-part-requires c κs = search needs
 
--- src/lib.rt:162:1
 same-length : tie.Need-same-length
 same-length c = search needs
 
--- src/lib.rt:162:1
 returns : tie.Need-returns
 returns c = fit-fit (c .before .before .before .before .before .before .put-name .ensures) (c .before .before .put-part .ensures)
 

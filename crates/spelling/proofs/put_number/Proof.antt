@@ -10,90 +10,69 @@ use Rattle.spelling.proofs.digit.Reads as digit-reads
 use Rattle.spelling.proofs.put_long.Reads as put-long-reads
 use Rattle.lines.proofs.put_part.Reads as put-part-reads
 
--- src/lib.rt:109:20
 digit-requires : tie.Need-digit-requires
 digit-requires c κs = search needs
 
--- src/lib.rt:110:34
 slice-aggregate-put-part : tie.Need-slice-aggregate-put-part
 slice-aggregate-put-part c = search needs
 
--- src/lib.rt:110:9
 put-part-requires : tie.Need-put-part-requires
 put-part-requires c κs = search needs
 
--- src/lib.rt:110:9
 same-length : tie.Need-same-length
 same-length c = search needs
 
--- src/lib.rt:110:9
 returns : tie.Need-returns
 unfolding line
 returns c = rw (one-digit (c .before .before .before .before .before .before .before .before .args .n) (omega arith), ← c .before .before .before .before .before .digit .ensures) (c .before .before .put-part .ensures)
 
--- src/lib.rt:113:20
 digit-requires-2 : tie.Need-digit-requires-2
 digit-requires-2 c κs = search needs
 
--- src/lib.rt:113:35
 digit-requires-3 : tie.Need-digit-requires-3
 digit-requires-3 c κs = search needs
 
--- src/lib.rt:114:34
 slice-aggregate-put-part-2 : tie.Need-slice-aggregate-put-part-2
 slice-aggregate-put-part-2 c = search needs
 
--- src/lib.rt:114:9
 put-part-requires-2 : tie.Need-put-part-requires-2
 put-part-requires-2 c κs = search needs
 
--- src/lib.rt:114:9
 same-length-2 : tie.Need-same-length-2
 same-length-2 c = search needs
 
--- src/lib.rt:114:9
 returns-2 : tie.Need-returns-2
 unfolding line
 returns-2 c = rw (two-digits (c .before .before .before .before .before .before .before .before .before .before .args .n) (omega arith) (omega arith), ← c .before .before .before .before .before .before .digit2 .ensures, ← c .before .before .before .before .before .digit3 .ensures) (c .before .before .put-part2 .ensures)
 
--- src/lib.rt:117:22
 digit-requires-4 : tie.Need-digit-requires-4
 digit-requires-4 c κs = search needs
 
--- src/lib.rt:117:38
 digit-requires-5 : tie.Need-digit-requires-5
 digit-requires-5 c κs = search needs
 
--- src/lib.rt:117:53
 digit-requires-6 : tie.Need-digit-requires-6
 digit-requires-6 c κs = search needs
 
--- src/lib.rt:118:34
 slice-aggregate-put-part-3 : tie.Need-slice-aggregate-put-part-3
 slice-aggregate-put-part-3 c = search needs
 
--- src/lib.rt:118:9
 put-part-requires-3 : tie.Need-put-part-requires-3
 put-part-requires-3 c κs = search needs
 
--- src/lib.rt:118:9
 same-length-3 : tie.Need-same-length-3
 same-length-3 c = search needs
 
--- src/lib.rt:118:9
 returns-3 : tie.Need-returns-3
 unfolding line
 returns-3 c = rw (three-digits (c .before .before .before .before .before .before .before .before .before .before .before .before .args .n) (omega arith) (omega arith), ← c .before .before .before .before .before .before .before .digit4 .ensures, ← c .before .before .before .before .before .before .digit5 .ensures, ← c .before .before .before .before .before .digit6 .ensures) (c .before .before .put-part3 .ensures)
 
--- src/lib.rt:120:5
 put-long-requires : tie.Need-put-long-requires
 put-long-requires c κs = search needs
 
--- src/lib.rt:105:1
 same-length-4 : tie.Need-same-length-4
 same-length-4 c = search needs
 
--- src/lib.rt:105:1
 returns-4 : tie.Need-returns-4
 returns-4 c = c .before .before .put-long .ensures (omega arith)
 

@@ -7,19 +7,15 @@ use Rattle.spelling.proofs.put_on_block.Lts as lts
 use Rattle.lines.proofs.put_part.Reads as put-part-reads
 use Rattle.spelling.proofs.put_named.Reads as put-named-reads
 
--- src/lib.rt:115:9
 put-part-requires : tie.Need-put-part-requires
 put-part-requires c κs = search needs
 
--- src/lib.rt:116:5
 put-named-requires : tie.Need-put-named-requires
 put-named-requires c κs = search needs
 
--- src/lib.rt:112:1
 same-length : tie.Need-same-length
 same-length c = search needs
 
--- src/lib.rt:112:1
 returns : tie.Need-returns
 returns c = fit-fit (c .before .before .before .before .before .before .put-part .ensures) (c .before .before .put-named .ensures)
 

@@ -9,31 +9,24 @@ use Rattle.spelling.proofs.put_time.Lts as lts
 use Rattle.lines.proofs.put_decimal.Reads as put-decimal-reads
 use Rattle.lines.proofs.put_part.Reads as put-part-reads
 
--- src/lib.rt:197:31
 slice-aggregate-put-part : tie.Need-slice-aggregate-put-part
 slice-aggregate-put-part c = search needs
 
--- src/lib.rt:197:9
 put-part-requires : tie.Need-put-part-requires
 put-part-requires c κs = search needs
 
--- src/lib.rt:198:9
 put-decimal-requires : tie.Need-put-decimal-requires
 put-decimal-requires c κs = search needs
 
--- src/lib.rt:199:22
 slice-aggregate-put-part-2 : tie.Need-slice-aggregate-put-part-2
 slice-aggregate-put-part-2 c = search needs
 
--- src/lib.rt:199:5
 put-part-requires-2 : tie.Need-put-part-requires-2
 put-part-requires-2 c κs = search needs
 
--- src/lib.rt:194:1
 same-length : tie.Need-same-length
 same-length c = search needs
 
--- src/lib.rt:194:1
 returns : tie.Need-returns
 unfolding line operatorText
 returns c = simp append-assoc (fit-fit (c .before .before .before .before .before .before .before .before .before .before .before .put-part .ensures) (fit-fit (put-fit (c .before .before .before .before .before .before .before .put-decimal .ensures)) (c .before .before .put-part2 .ensures)))

@@ -9,35 +9,27 @@ use Rattle.splicetuck.proofs.load_at.Reads as load-at-reads
 use Rattle.splicetuck.proofs.message.say.Reads as say-reads
 use Rattle.splicetuck.proofs.failed.Reads as failed-reads
 
--- src/main.rt:101:22
 slice-aggregate-say : tie.Need-slice-aggregate-say
 slice-aggregate-say c = search needs
 
--- src/main.rt:101:9
 say-requires : tie.Need-say-requires
 say-requires c κs = search needs
 
--- src/main.rt:102:16
 failed-requires : tie.Need-failed-requires
 failed-requires c κs = search needs
 
--- src/main.rt:102:9
 returns : tie.Need-returns
 returns c = search needs
 
--- src/main.rt:104:13
 slice-aggregate-load-at : tie.Need-slice-aggregate-load-at
 slice-aggregate-load-at c = sym (length-take-le _ _ (search needs))
 
--- src/main.rt:104:5
 load-at-requires : tie.Need-load-at-requires
 load-at-requires c κs = search needs
 
--- src/main.rt:99:1
 same-length : tie.Need-same-length
 same-length c = search needs
 
--- src/main.rt:99:1
 returns-2 : tie.Need-returns-2
 returns-2 c = search needs
 

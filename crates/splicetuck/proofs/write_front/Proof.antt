@@ -9,39 +9,30 @@ use Rattle.io.proofs.write_all.Reads as write-all-reads
 use Rattle.os.proofs.fail.Reads as fail-reads
 use Rattle.splicetuck.proofs.message.say.Reads as say-reads
 
--- src/main.rt:122:22
 slice-aggregate-say : tie.Need-slice-aggregate-say
 slice-aggregate-say c = search needs
 
--- src/main.rt:122:9
 say-requires : tie.Need-say-requires
 say-requires c κs = search needs
 
--- src/main.rt:123:9
 returns : tie.Need-returns
 returns c = search needs
 
--- src/main.rt:125:38
 slice-aggregate-write-all : tie.Need-slice-aggregate-write-all
 slice-aggregate-write-all c = sym (length-take-le _ _ (search needs))
 
--- src/main.rt:125:9
 write-all-requires : tie.Need-write-all-requires
 write-all-requires c κs = search needs
 
--- src/main.rt:126:18
 slice-aggregate-fail : tie.Need-slice-aggregate-fail
 slice-aggregate-fail c = search needs
 
--- src/main.rt:126:9
 fail-requires : tie.Need-fail-requires
 fail-requires c κs = search needs
 
--- src/main.rt:127:9
 returns-2 : tie.Need-returns-2
 returns-2 c = search needs
 
--- src/main.rt:120:1
 returns-3 : tie.Need-returns-3
 returns-3 c = search needs
 

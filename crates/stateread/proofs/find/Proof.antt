@@ -17,8 +17,11 @@ returns c c' l e R h lm C W F a k = F a k ∙ found-past c' R l (c .before .befo
 super-state-requires : tie.Need-super-state-requires
 super-state-requires c κs = search needs
 
-code-at-requires : tie.Need-code-at-requires
-code-at-requires c κs = search needs
+number-requires : tie.Need-number-requires
+number-requires c κs = search needs
+
+cast-if2 : tie.Need-cast-if2
+cast-if2 c = search needs
 
 value-requires : tie.Need-value-requires
 value-requires c κs = search needs
@@ -34,7 +37,7 @@ returns-2 c c' l e R h lm C W F =
     let a = c .before .before .before .before .before .before .before .before .before .before .before .before .before .args in
     let u = c .before .before .before .before .before .before .before .super-state .ensures c' e in
     let o : coded c' (superState c' (a .s)) (lentCode c' l (superState c' (a .s))) (a .s) ≡ true = own-coded c' R l (a .codes .now) (a .wants .now) (a .s) (c .before .before .before .before .before .before .before .before .if1 .left) h C W
-    ∙ eq-eqb _ _ (sym (c .before .before .before .before .before .before .code-at .ensures) ∙ c .before .before .before .before .if2 .taken ∙ c .before .before .before .before .before .value .ensures ∙ ap (λ k. getD (a .wants .now) k 0) u) in
+    ∙ eq-eqb _ _ (sym (c .before .before .before .before .before .before .number .ensures) ∙ c .before .before .before .before .if2 .taken ∙ c .before .before .before .before .before .value .ensures ∙ ap (λ k. getD (a .wants .now) k 0) u) in
     rw (c .before .before .remember .ensures (omega (arith, h, R .size .fewStates)), u)
     (found-set c' R l (a .memory .now) (a .s) h o (omega (arith, lm, super-of c' R (a .s) (c .before .before .before .before .before .before .before .before .if1 .left) h)) F)
 
@@ -43,7 +46,7 @@ returns-3 c c' l e R h lm C W F =
     let a = c .before .before .before .before .before .before .before .before .before .args in
     let u = c .before .before .before .super-state .ensures c' e in
     let o : coded c' (superState c' (a .s)) (lentCode c' l (superState c' (a .s))) (a .s) ≡ false = own-coded c' R l (a .codes .now) (a .wants .now) (a .s) (c .before .before .before .before .if1 .left) h C W
-    ∙ ne-eqb _ _ (λ z. c .if2 .left (c .before .before .code-at .ensures ∙ z ∙ sym (c .before .value .ensures ∙ ap (λ k. getD (a .wants .now) k 0) u))) in
+    ∙ ne-eqb _ _ (λ z. c .if2 .left (c .before .before .number .ensures ∙ z ∙ sym (c .before .value .ensures ∙ ap (λ k. getD (a .wants .now) k 0) u))) in
     found-keep c' R l (a .memory .now) (a .s) h o F
 
 pub find-spec : {M : Type 1} → statement M
@@ -52,7 +55,8 @@ find-spec =
     (tie.spec
     returns
     super-state-requires
-    code-at-requires
+    number-requires
+    cast-if2
     value-requires
     remember-requires
     same-length

@@ -11,9 +11,9 @@ use Rattle.meaning.specs.Literals.{inputOn}
 use Rattle.meaning.specs.Machine.{activeLeaf}
 use Rattle.meaning.specs.MachineLaws.{Sound}
 use Rattle.meaning.specs.Lent.{lentLength, lentMemory, stateOf, statePasses}
-use Rattle.paths.specs.Words.{Worded}
-use Rattle.machine.specs.StepLaws.{rules-tree, worded}
-use Rattle.paths.specs.FlagsLaws.{walk-active, leaf-known}
+use Rattle.pairing.specs.Words.{Worded}
+use Rattle.machine.specs.StepLaws.{rules-tree}
+use Rattle.paths.specs.WalkLaws.{walk-active, leaf-known}
 use Rattle.stateread.specs.CodesLaws.{codes-sound, timers-held, wrong-length, wrong-codes, right-codes, entries-pass, rows-pass}
 use Rattle.stateread.proofs.state_passes.Statement.{statement}
 use Rattle.stateread.proofs.state_passes.Tie as tie
@@ -95,7 +95,7 @@ returns-3 c c' d e g p R C E =
     let full : length ts ≡ 32 = c .before .before .before .before .before .before .before .before .before .before .before .before .copy-timers .kept .1 .1 .1 .0 ∙ E .timersRoom in
     let held-timers = timers-held c' R l ts long full (λ i z. c .before .before .before .before .before .before .before .before .before .before .before .before .copy-timers .ensures (omega (arith, count, few)) (omega (arith, count, few, E .timersRoom)) i (omega (arith, count, z)) ∙ ap (λ f. getD l (f + i) 0) (w .0)) in
     let sound : Sound c' (take (stateCount c') mem) = rw m (codes-sound c' R l codes) in
-    let W : Worded c' (c' .timerPairs) rs = subst (λ ps. Worded c' ps rs) (sym p) (worded c' (a .timer-pairs .now) rs (c .before .before .before .before .before .before .before .before .paired-words .ensures c' e (rules-tree c' R) (E .runsRoom) (E .noRuns))) in
+    let W : Worded c' (c' .timerPairs) rs = subst (λ ps. Worded c' ps rs) (sym p) (c .before .before .before .before .before .before .before .before .paired-words .ensures c' e (rules-tree c' R) (E .runsRoom) (E .noRuns)) in
     let at-leaf : c .before .before .before .active-leaf .result ≡ activeLeaf c' (take (stateCount c') mem) = c .before .before .before .active-leaf .ensures ∙ walk-active c' R mem sound in
     let bits : (k : ℕ) → k < 64 → inputOn (c .before .before .word .result) (suc k) ≡ paired c' (c' .timerPairs) (suc k) (activeLeaf c' (lentMemory c' l)) = λ k z.
     ap (λ v. inputOn v (suc k)) (c .before .before .word .ensures) ∙ W (c .before .before .before .active-leaf .result) k (rw at-leaf (leaf-known c' R mem sound)) z ∙ ap (paired c' (c' .timerPairs) (suc k)) (at-leaf ∙ ap (activeLeaf c') m) in

@@ -3,51 +3,39 @@ use borrow.Author.Needs.{needs}
 use Rattle.steps.proofs.step_chart.Statement.{statement}
 use Rattle.steps.proofs.step_chart.Tie as tie
 
--- src/lib.rt:76:9
 slice-aggregate-run-chart : tie.Need-slice-aggregate-run-chart
 slice-aggregate-run-chart c = search needs
 
--- src/lib.rt:77:9
 slice-aggregate-run-chart-2 : tie.Need-slice-aggregate-run-chart-2
 slice-aggregate-run-chart-2 c = search needs
 
--- src/lib.rt:78:9
 slice-aggregate-run-chart-3 : tie.Need-slice-aggregate-run-chart-3
 slice-aggregate-run-chart-3 c = search needs
 
--- src/lib.rt:68:9
 run-chart-requires : tie.Need-run-chart-requires
 run-chart-requires c κs = search needs
 
--- src/lib.rt:82:19
 enum-told : tie.Need-enum-told
 enum-told c = search needs
 
--- src/lib.rt:82:19
 array-read-t25 : tie.Need-array-read-t25
 array-read-t25 c = search needs
 
--- src/lib.rt:83:22
 array-read-t28 : tie.Need-array-read-t28
 array-read-t28 c = search needs
 
--- src/lib.rt:85:22
 enum-known-ran : tie.Need-enum-known-ran
 enum-known-ran c = search needs
 
--- src/lib.rt:52:1
 same-length : tie.Need-same-length
 same-length c = search needs
 
--- src/lib.rt:52:1
 returns : tie.Need-returns
 returns c = done-one _ _ _ _ _ _ _ _ _ _ (c .enum-told .given .1) (c .before .before .before .before .before .before .run-chart .ensures)
 
--- src/lib.rt:52:1
 same-length-2 : tie.Need-same-length-2
 same-length-2 c = search needs
 
--- src/lib.rt:52:1
 returns-2 : tie.Need-returns-2
 returns-2 c = refused-one _ _ _ _ _ _ _ _ _ _ (c .before .ran .given .1) (c .before .before .before .before .before .before .before .run-chart .ensures)
 

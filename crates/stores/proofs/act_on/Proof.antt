@@ -12,39 +12,30 @@ use Rattle.stores.proofs.act_on.Reads as reads
 use Rattle.stores.proofs.act_on.Lts as lts
 use Rattle.stores.proofs.set_or_reset.Reads as set-or-reset-reads
 
--- src/lib.rt:225:22
 sub-set-or-reset : tie.Need-sub-set-or-reset
 sub-set-or-reset c = search needs
 
--- src/lib.rt:225:22
 part-set-or-reset-start : tie.Need-part-set-or-reset-start
 part-set-or-reset-start c = search needs
 
--- src/lib.rt:225:22
 part-set-or-reset-end : tie.Need-part-set-or-reset-end
 part-set-or-reset-end c = search needs
 
--- src/lib.rt:225:9
 set-or-reset-requires : tie.Need-set-or-reset-requires
 set-or-reset-requires c κs = search needs
 
--- src/lib.rt:227:22
 slice-relend-prefix-set-or-reset : tie.Need-slice-relend-prefix-set-or-reset
 slice-relend-prefix-set-or-reset c = search needs
 
--- src/lib.rt:227:22
 slice-aggregate-set-or-reset : tie.Need-slice-aggregate-set-or-reset
 slice-aggregate-set-or-reset c = sym (length-take-le _ (c .before .before .before .args .ff .now) (omega arith))
 
--- src/lib.rt:227:9
 set-or-reset-requires-2 : tie.Need-set-or-reset-requires-2
 set-or-reset-requires-2 c κs = search needs
 
--- src/lib.rt:218:1
 same-length : tie.Need-same-length
 same-length c = search needs
 
--- src/lib.rt:218:1
 returns : tie.Need-returns
 returns c =
     let a = c .before .before .before .before .before .before .args in
@@ -52,11 +43,9 @@ returns c =
     let e : b + (a .n - b) ≡ a .n = omega arith in
     rw (c .before .before .set-or-reset .ensures) (rw e at (set-tail (a .ff .now) b (a .n - b) (cond (a .v) 1 0)))
 
--- src/lib.rt:218:1
 same-length-2 : tie.Need-same-length-2
 same-length-2 c = search needs
 
--- src/lib.rt:218:1
 returns-2 : tie.Need-returns-2
 returns-2 c =
     let a = c .before .before .before .before .before .before .args in

@@ -5,19 +5,15 @@ use Rattle.stores.proofs.act_when.Reads as reads
 use Rattle.stores.proofs.act_when.Lts as lts
 use Rattle.stores.proofs.act.Reads as act-reads
 
--- src/lib.rt:252:9
 act-requires : tie.Need-act-requires
 act-requires c κs = search needs
 
--- src/lib.rt:248:1
 same-length : tie.Need-same-length
 same-length c = search needs
 
--- src/lib.rt:248:1
 returns : tie.Need-returns
 returns c = rw (c .before .before .before .before .if1 .taken) (c .before .before .act .ensures)
 
--- src/lib.rt:248:1
 returns-2 : tie.Need-returns-2
 returns-2 c = search needs
 

@@ -7,31 +7,24 @@ use Rattle.stores.proofs.set_or_reset.Tie as tie
 use Rattle.stores.proofs.set_or_reset.Reads as reads
 use Rattle.stores.proofs.set_or_reset.Lts as lts
 
--- src/lib.rt:219:13
 slice-write-part : tie.Need-slice-write-part
 slice-write-part c = search needs
 
--- src/lib.rt:221:13
 slice-write-part-2 : tie.Need-slice-write-part-2
 slice-write-part-2 c = search needs
 
--- src/lib.rt:214:1
 same-length : tie.Need-same-length
 same-length c = search needs
 
--- src/lib.rt:214:1
 returns : tie.Need-returns
 returns c = rw (c .if2 .taken)
 
--- src/lib.rt:214:1
 same-length-2 : tie.Need-same-length-2
 same-length-2 c = search needs
 
--- src/lib.rt:214:1
 returns-2 : tie.Need-returns-2
 returns-2 c = rw (c .if2 .left)
 
--- src/lib.rt:214:1
 returns-3 : tie.Need-returns-3
 returns-3 c = sym (set-out (c .before .args .part .now) (c .before .args .k) _ (omega arith))
 

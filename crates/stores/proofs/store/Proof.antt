@@ -6,15 +6,12 @@ use Rattle.stores.proofs.store.Reads as reads
 use Rattle.stores.proofs.store.Lts as lts
 use Rattle.stores.proofs.set_or_reset.Reads as set-or-reset-reads
 
--- src/lib.rt:262:21
 enum-known-o : tie.Need-enum-known-o
 enum-known-o c = search needs
 
--- src/lib.rt:263:21
 cast-k : tie.Need-cast-k
 cast-k c = search needs
 
--- src/lib.rt:264:13
 set-or-reset-requires : tie.Need-set-or-reset-requires
 set-or-reset-requires c κs = search needs
 
@@ -42,51 +39,41 @@ enum-told-7 c = search needs
 enum-told-8 : tie.Need-enum-told-8
 enum-told-8 c = search needs
 
--- src/lib.rt:258:1
 same-length : tie.Need-same-length
 same-length c = search needs
 
--- src/lib.rt:258:1
 returns : tie.Need-returns
 unfolding put
 returns c = rw (c .before .before .before .before .before .o .given .1, c .before .before .set-or-reset .ensures)
 
--- src/lib.rt:258:1
 returns-2 : tie.Need-returns-2
 unfolding put
 returns-2 c = rw (c .enum-told .given .1)
 
--- src/lib.rt:258:1
 returns-3 : tie.Need-returns-3
 unfolding put
 returns-3 c = rw (c .enum-told2 .given .1)
 
--- src/lib.rt:258:1
 returns-4 : tie.Need-returns-4
 unfolding put
 returns-4 c = rw (c .enum-told3 .given .1)
 
--- src/lib.rt:258:1
 returns-5 : tie.Need-returns-5
 unfolding put
 returns-5 c = rw (c .enum-told4 .given .1)
 
--- src/lib.rt:258:1
 returns-6 : tie.Need-returns-6
 unfolding put
 returns-6 c = rw (c .enum-told5 .given .1)
 
--- src/lib.rt:258:1
 returns-7 : tie.Need-returns-7
 unfolding put
 returns-7 c = rw (c .enum-told6 .given .1)
 
--- src/lib.rt:258:1
 returns-8 : tie.Need-returns-8
 unfolding put
 returns-8 c = rw (c .enum-told7 .given .1)
 
--- src/lib.rt:258:1
 returns-9 : tie.Need-returns-9
 unfolding put
 returns-9 c = rw (c .enum-told8 .given .1)

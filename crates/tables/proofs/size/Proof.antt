@@ -5,7 +5,7 @@ use mir.Syntax.{w16}
 use lib.Signed.{ltZ, nonNeg}
 use lib.IntN.{ℤ, pos, negsuc, natAbs, _-ℤ_}
 use lib.Dec.{T}
-use Prim.Native.Nat.{suc, _<_}
+use Prim.Native.Nat.{ℕ, suc, _<_, _≤_}
 use native.Mathlib.Nat.{zero-add}
 use native.Mathlib.Omega.{arith}
 use borrow.Author.Tests.{ltb-true, ltb-false}
@@ -14,17 +14,17 @@ use mathlib.Core.Bool.{true, false}
 use Rattle.tables.proofs.size.Statement.{statement}
 use Rattle.tables.proofs.size.Tie as tie
 
--- the least number
-low : (v : ℤ) → SFits w16 v → ltZ v (negsuc 32766) ≡ true → 32768 ≡ natAbs v
-low (pos n) f p = let z : true ≡ false = sym p in cc
-low (negsuc n) f p =
+-- the least number is the only one below -32,767
+low : (k : ℕ) → 32766 ≤ k → (v : ℤ) → SFits w16 v → ltZ v (negsuc k) ≡ true → 32768 ≡ natAbs v
+low k h (pos n) f p = let z : true ≡ false = sym p in cc
+low k h (negsuc n) f p =
     let s : n < 32768 = f .sfits in
-    let h : 32766 < n = ltb-true 32766 n p in omega arith
+    let g : k < n = ltb-true k n p in omega arith
 
 -- a negative number above it: its opposite fits, is no negative number, and is its size
-opposite-fits : (v : ℤ) → ltZ v (negsuc 32766) ≡ false → ltZ v (pos 0) ≡ true → SFits w16 (pos 0 -ℤ v)
-opposite-fits (pos n) p q = absurd (omega (arith, ltb-true n 0 q))
-opposite-fits (negsuc n) p q = record { sfits = omega (arith, ltb-false 32766 n p) }
+opposite-fits : (k : ℕ) → k ≤ 32766 → (v : ℤ) → ltZ v (negsuc k) ≡ false → ltZ v (pos 0) ≡ true → SFits w16 (pos 0 -ℤ v)
+opposite-fits k h (pos n) p q = absurd (omega (arith, ltb-true n 0 q))
+opposite-fits k h (negsuc n) p q = record { sfits = omega (arith, ltb-false k n p) }
 
 opposite-pos : (v : ℤ) → ltZ v (pos 0) ≡ true → T (nonNeg (pos 0 -ℤ v))
 opposite-pos (pos n) q = absurd (omega (arith, ltb-true n 0 q))
@@ -36,16 +36,16 @@ opposite-size (negsuc n) q = zero-add (suc n)
 
 returns : tie.Need-returns
 returns c =
-    let f = c .before .fits .v in low (c .before .args .v) f (rw (toZ-ofZ f) at (c .if1 .taken))
+    let f = c .before .fits .v in low _ (omega arith) (c .before .args .v) f (rw (toZ-ofZ f) at (c .if1 .taken))
 
 sub-result : tie.Need-sub-result
 sub-result c =
-    let u = toZ w16 (ofZ w16 (c .before .before .args .v)) in opposite-fits u (c .before .if1 .left) (c .if2 .taken)
+    let u = toZ w16 (ofZ w16 (c .before .before .args .v)) in opposite-fits _ (omega arith) u (c .before .if1 .left) (c .if2 .taken)
 
 cast-result : tie.Need-cast-result
 cast-result c =
     let u = toZ w16 (ofZ w16 (c .before .before .args .v)) in
-    let f = opposite-fits u (c .before .if1 .left) (c .if2 .taken) in
+    let f = opposite-fits _ (omega arith) u (c .before .if1 .left) (c .if2 .taken) in
     rw (toZ-ofZ f) (opposite-pos u (c .if2 .taken), fits-natAbs tt f)
 
 returns-2 : tie.Need-returns-2
@@ -53,7 +53,7 @@ returns-2 c =
     let v = c .before .before .args .v in
     let u = toZ w16 (ofZ w16 v) in
     let f = toZ-ofZ (c .before .before .fits .v) in
-    ap natAbs (toZ-ofZ (opposite-fits u (c .before .if1 .left) (c .if2 .taken)))
+    ap natAbs (toZ-ofZ (opposite-fits _ (omega arith) u (c .before .if1 .left) (c .if2 .taken)))
     ∙ opposite-size u (c .if2 .taken) ∙ ap natAbs f
 
 cast-result-2 : tie.Need-cast-result-2

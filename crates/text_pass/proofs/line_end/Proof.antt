@@ -14,28 +14,22 @@ Inv-loop text from e₀ e = (from ≤ e) × (e ≤ length text) × ((i : ℕ) �
 abbrev μ-loop : tie.MeasureT-loop
 μ-loop text from e₀ e = length text - e
 
--- src/lib.rt:23:5
 loop-holds : tie.Need-loop-holds Inv-loop μ-loop
 loop-holds c = (omega arith, omega arith, λ i h k. absurd (omega arith))
 
--- src/lib.rt:24:12
 shared-slice-read-if1 : tie.Need-shared-slice-read-if1 Inv-loop μ-loop
 shared-slice-read-if1 c = omega arith
 
--- src/lib.rt:25:13
 returns : tie.Need-returns Inv-loop μ-loop
 returns c = let b = c .before .before .before in
     record { after = omega arith; within = omega arith; lf = λ h. c .if1 .taken; none = b .loop .inv .2 }
 
--- src/lib.rt:27:9
 add-e : tie.Need-add-e Inv-loop μ-loop
 add-e c = omega arith
 
--- src/lib.rt:23:5
 loop-less : tie.Need-loop-less Inv-loop μ-loop
 loop-less c = omega arith
 
--- src/lib.rt:23:5
 loop-again : tie.Need-loop-again Inv-loop μ-loop
 loop-again c = let b = c .before .before .before in (
   omega arith,
@@ -46,7 +40,6 @@ loop-again c = let b = c .before .before .before in (
   ],
 )
 
--- src/lib.rt:18:1
 returns-2 : tie.Need-returns-2 Inv-loop μ-loop
 returns-2 c = record { after = omega arith; within = omega arith; lf = λ h. absurd (omega arith); none = c .before .loop .inv .2 }
 

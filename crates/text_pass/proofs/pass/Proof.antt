@@ -22,96 +22,74 @@ Inv-loop text out₀ p₀ from₀ n₀ out p from n = Passing text out₀ from p
 abbrev μ-loop : tie.MeasureT-loop
 μ-loop text out₀ p₀ from₀ n₀ out p from n = length text - from
 
--- src/lib.rt:63:9
 first-requires : tie.Need-first-requires Inv-loop μ-loop
 first-requires c κs = search needs
 
--- src/lib.rt:66:5
 loop-holds : tie.Need-loop-holds Inv-loop μ-loop
 loop-holds c = passing-none _ _ _ (c .first .ensures)
 
--- src/lib.rt:67:13
 line-end-requires : tie.Need-line-end-requires Inv-loop μ-loop
 line-end-requires c κs = c .before .loop .inv .taken .within
 
--- src/lib.rt:69:13
 same-length : tie.Need-same-length Inv-loop μ-loop
 same-length c = passing-length (c .before .before .before .loop .inv)
 
--- src/lib.rt:69:13
 returns : tie.Need-returns Inv-loop μ-loop
 returns c = let f = c .before .line-end .ensures in
     passing-unfinished (c .before .before .before .loop .inv) (rw (c .if1 .taken) at f) (omega arith)
 
--- src/lib.rt:71:31
 sub-line-of : tie.Need-sub-line-of Inv-loop μ-loop
 sub-line-of c = omega (arith, c .before .line-end .ensures .after)
 
--- src/lib.rt:71:31
 part-line-of-start : tie.Need-part-line-of-start Inv-loop μ-loop
 part-line-of-start c = omega (arith, c .before .line-end .ensures .after, c .before .line-end .ensures .within)
 
--- src/lib.rt:71:31
 part-line-of-end : tie.Need-part-line-of-end Inv-loop μ-loop
 part-line-of-end c = omega (arith, c .before .line-end .ensures .within)
 
--- src/lib.rt:71:13
 line-of-requires : tie.Need-line-of-requires Inv-loop μ-loop
 line-of-requires c κs = search needs
 
--- src/lib.rt:72:9
 turn-requires : tie.Need-turn-requires Inv-loop μ-loop
 turn-requires c κs = search needs
 
--- src/lib.rt:73:12
 stands-requires : tie.Need-stands-requires Inv-loop μ-loop
 stands-requires c κs = search needs
 
--- src/lib.rt:74:13
 put-line-requires : tie.Need-put-line-requires Inv-loop μ-loop
 put-line-requires c κs = omega (arith, c .before .before .before .before .before .before .before .before .before .loop .inv .few, c .before .before .before .before .before .before .before .before .before .loop .inv .taken .within)
 
--- src/lib.rt:75:20
 add-from : tie.Need-add-from Inv-loop μ-loop
 add-from c = omega (arith, c .before .before .before .before .before .before .before .before .before .before .line-end .ensures .within)
 
--- src/lib.rt:66:5
 loop-less : tie.Need-loop-less Inv-loop μ-loop
 loop-less c = omega (arith, c .before .before .before .before .before .before .before .before .before .before .line-end .ensures .after, c .before .before .before .before .before .before .before .before .before .before .line-end .ensures .within)
 
--- src/lib.rt:66:5
 loop-again : tie.Need-loop-again Inv-loop μ-loop
 loop-again c = let b = c .before .before .before .before .before .before .before .before .before .before .before .before in
     let f = c .before .before .before .before .before .before .before .before .before .before .line-end .ensures in
     passing-line (b .loop .inv) (c .before .before .before .before .before .before .before .before .before .before .line-end .result) f (omega (arith, f .within)) (c .before .before .before .before .before .before .before .line-of .result) (c .before .before .before .before .before .before .before .line-of .ensures) (c .before .before .before .before .before .before .turn .ensures) (sym (c .before .before .before .before .before .stands .ensures) ∙ c .before .before .before .before .if2 .taken) (c .before .before .put-line .ensures .0) (c .before .before .put-line .ensures .1)
 
--- src/lib.rt:77:13
 same-length-2 : tie.Need-same-length-2 Inv-loop μ-loop
 same-length-2 c = passing-length (c .before .before .before .before .before .before .before .before .loop .inv)
 
--- src/lib.rt:77:13
 returns-2 : tie.Need-returns-2 Inv-loop μ-loop
 returns-2 c = let b = c .before .before .before .before .before .before .before .before in
     let f = c .before .before .before .before .before .before .line-end .ensures in
     passing-refused (b .loop .inv) (c .before .before .before .before .before .before .line-end .result) f (omega (arith, f .within)) (c .before .before .before .line-of .result) (c .before .before .before .line-of .ensures) (c .before .before .turn .ensures) (sym (c .before .stands .ensures) ∙ c .if2 .left)
 
--- src/lib.rt:80:8
 is-over-requires : tie.Need-is-over-requires Inv-loop μ-loop
 is-over-requires c κs = search needs
 
--- src/lib.rt:81:9
 same-length-3 : tie.Need-same-length-3 Inv-loop μ-loop
 same-length-3 c = passing-length (c .before .before .before .loop .inv)
 
--- src/lib.rt:81:9
 returns-3 : tie.Need-returns-3 Inv-loop μ-loop
 returns-3 c = passing-over (c .before .before .before .loop .inv) (omega arith) (sym (c .before .is-over .ensures) ∙ c .if3 .taken)
 
--- src/lib.rt:60:1
 same-length-4 : tie.Need-same-length-4 Inv-loop μ-loop
 same-length-4 c = passing-length (c .before .before .before .loop .inv)
 
--- src/lib.rt:60:1
 returns-4 : tie.Need-returns-4 Inv-loop μ-loop
 returns-4 c = passing-short (c .before .before .before .loop .inv) (omega arith) (sym (c .before .is-over .ensures) ∙ c .if3 .left)
 

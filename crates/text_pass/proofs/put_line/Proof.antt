@@ -5,67 +5,51 @@ use Rattle.text_pass.proofs.put_line.Reads as reads
 use Rattle.text_pass.proofs.put_line.Lts as lts
 use Rattle.text_pass.proofs.put_word.Reads as put-word-reads
 
--- src/lib.rt:49:25
 enum-told : tie.Need-enum-told
 enum-told c = search needs
 
--- src/lib.rt:50:22
 enum-told-2 : tie.Need-enum-told-2
 enum-told-2 c = search needs
 
--- src/lib.rt:51:27
 enum-told-3 : tie.Need-enum-told-3
 enum-told-3 c = search needs
 
--- src/lib.rt:52:25
 enum-told-4 : tie.Need-enum-told-4
 enum-told-4 c = search needs
 
--- src/lib.rt:53:20
 enum-known-l : tie.Need-enum-known-l
 enum-known-l c = search needs
 
--- src/lib.rt:53:26
 put-word-requires : tie.Need-put-word-requires
 put-word-requires c κs = search needs
 
--- src/lib.rt:54:29
 enum-told-5 : tie.Need-enum-told-5
 enum-told-5 c = search needs
 
--- src/lib.rt:55:26
 enum-told-6 : tie.Need-enum-told-6
 enum-told-6 c = search needs
 
--- src/lib.rt:44:1
 returns : tie.Need-returns
 returns c = search needs
 
--- src/lib.rt:44:1
 returns-2 : tie.Need-returns-2
 returns-2 c = search needs
 
--- src/lib.rt:44:1
 returns-3 : tie.Need-returns-3
 returns-3 c = search needs
 
--- src/lib.rt:44:1
 returns-4 : tie.Need-returns-4
 returns-4 c = search needs
 
--- src/lib.rt:44:1
 same-length : tie.Need-same-length
 same-length c = search needs
 
--- src/lib.rt:44:1
 returns-5 : tie.Need-returns-5
 returns-5 c = rw (c .before .before .before .before .before .l .given .1) (c .before .before .put-word .ensures)
 
--- src/lib.rt:44:1
 returns-6 : tie.Need-returns-6
 returns-6 c = search needs
 
--- src/lib.rt:44:1
 returns-7 : tie.Need-returns-7
 returns-7 c = search needs
 

@@ -10,36 +10,28 @@ use Rattle.text_pass.proofs.put_word.Reads as reads
 use Rattle.text_pass.proofs.put_word.Lts as lts
 use Rattle.encode.proofs.encode.Reads as encode-reads
 
--- src/lib.rt:38:18
 encode-requires : tie.Need-encode-requires
 encode-requires c κs = search needs
 
--- src/lib.rt:38:9
 mul-out : tie.Need-mul-out
 mul-out c = search needs
 
--- src/lib.rt:38:9
 slice-write-out : tie.Need-slice-write-out
 slice-write-out c = search needs
 
--- src/lib.rt:39:16
 add-result : tie.Need-add-result
 add-result c = search needs
 
--- src/lib.rt:39:9
 same-length : tie.Need-same-length
 same-length c = search needs
 
--- src/lib.rt:39:9
 returns : tie.Need-returns
 returns c = let a = c .before .before .before .args in
     (refl, ap (set (a .out .now) (a .n)) (c .encode .ensures))
 
--- src/lib.rt:41:5
 add-result-2 : tie.Need-add-result-2
 add-result-2 c = search needs
 
--- src/lib.rt:33:1
 returns-2 : tie.Need-returns-2
 returns-2 c = let a = c .before .before .args in
     (refl, sym (set-out (a .out .now) (a .n) (word (a .i) % 4294967296) (c .if1 .left)))

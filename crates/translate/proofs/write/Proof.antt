@@ -9,31 +9,24 @@ use Rattle.translate.proofs.write.Lts as lts
 use Rattle.chart.proofs.check.Reads as check-reads
 use Rattle.writer.proofs.write_checked.Reads as write-checked-reads
 
--- src/lib.rt:22:9
 check-requires : tie.Need-check-requires
 check-requires c κs = search needs
 
--- src/lib.rt:25:26
 enum-known-v : tie.Need-enum-known-v
 enum-known-v c = search needs
 
--- src/lib.rt:33:13
 enum-told : tie.Need-enum-told
 enum-told c = search needs
 
--- src/lib.rt:26:30
 write-checked-requires : tie.Need-write-checked-requires
 write-checked-requires c κs = search needs
 
--- src/lib.rt:10:1
 returns : tie.Need-returns
 returns c = refused-tables _ _ _ (sym (c .before .before .before .check .ensures) ∙ c .before .v .given .1)
 
--- src/lib.rt:10:1
 same-length : tie.Need-same-length
 same-length c = search needs
 
--- src/lib.rt:10:1
 returns-2 : tie.Need-returns-2
 returns-2 c =
     let e = sym (c .before .before .before .before .before .before .check .ensures) ∙ c .before .before .before .before .enum-told .given .1 in

@@ -10,16 +10,13 @@ use Rattle.values.proofs.bit_on.Tie as tie
 use Rattle.values.proofs.bit_on.Reads as reads
 use Rattle.values.proofs.bit_on.Lts as lts
 
--- src/lib.rt:50:9
 returns : tie.Need-returns
 unfolding bitOn
 returns c = sym (bit-far (c .before .args .w) (c .before .args .k) (lt-of-lt-of-le (c .before .fits .w .fits) (pow-mono {i = 64} {j = c .before .args .k} (omega arith))))
 
--- src/lib.rt:52:6
 shr-result : tie.Need-shr-result
 shr-result c = search needs
 
--- src/lib.rt:46:1
 returns-2 : tie.Need-returns-2
 unfolding bitOn
 returns-2 c = search needs

@@ -8,16 +8,13 @@ use Rattle.values.proofs.flip_flop.Tie as tie
 use Rattle.values.proofs.flip_flop.Reads as reads
 use Rattle.values.proofs.flip_flop.Lts as lts
 
--- src/lib.rt:86:16
 shared-slice-read-result : tie.Need-shared-slice-read-result
 shared-slice-read-result c = search needs
 
--- src/lib.rt:86:9
 returns : tie.Need-returns
 unfolding flipFlopOn
 returns c = search needs
 
--- src/lib.rt:81:1
 returns-2 : tie.Need-returns-2
 unfolding flipFlopOn
 returns-2 c = sym (rw (List·getD-eq-default (c .before .args .ff .now) 0 {n = c .before .args .n} (omega arith)))

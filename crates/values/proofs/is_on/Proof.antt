@@ -9,15 +9,12 @@ use Rattle.values.proofs.is_on.Lts as lts
 use Rattle.values.proofs.bit_on.Reads as bit-on-reads
 use Rattle.values.proofs.from_zero.Reads as from-zero-reads
 
--- src/lib.rt:78:15
 from-zero-requires : tie.Need-from-zero-requires
 from-zero-requires c κs = search needs
 
--- src/lib.rt:78:5
 bit-on-requires : tie.Need-bit-on-requires
 bit-on-requires c κs = search needs
 
--- src/lib.rt:75:1
 returns : tie.Need-returns
 unfolding inputOn bitOn
 returns c =

@@ -1,4 +1,5 @@
-use Rattle.values.specs.Bits.{weight, bit-low, bit-room}
+use Rattle.meaning.specs.BitLaws.{weight}
+use Rattle.values.specs.Bits.{bit-low, bit-room}
 use Rattle.values.specs.Value.{withBit}
 use borrow.Author.Tests.{lt-ltb, le-ltb}
 use native.Mathlib.Omega.{arith}
@@ -10,43 +11,34 @@ use Rattle.values.proofs.with_bit.Reads as reads
 use Rattle.values.proofs.with_bit.Lts as lts
 use Rattle.values.proofs.bit_on.Reads as bit-on-reads
 
--- src/lib.rt:59:9
 returns : tie.Need-returns
 unfolding withBit
 returns c = rw (le-ltb (c .before .args .k) 64 (omega arith))
 
--- src/lib.rt:61:18
 shl-weight : tie.Need-shl-weight
 shl-weight c = search needs
 
--- src/lib.rt:62:8
 bit-on-requires : tie.Need-bit-on-requires
 bit-on-requires c κs = search needs
 
--- src/lib.rt:64:13
 returns-2 : tie.Need-returns-2
 unfolding withBit
 returns-2 c = rw (lt-ltb (c .before .before .before .before .args .k) 64 (omega arith), ← c .before .before .bit-on .ensures, c .before .if2 .taken, c .if3 .taken) (omega arith)
 
--- src/lib.rt:66:16
 sub-result : tie.Need-sub-result
 sub-result c = rw (weight (c .before .before .before .before .args .k) (omega arith)) (bit-low (c .before .before .before .before .args .k) (c .before .before .before .before .args .w) (sym (c .before .before .bit-on .ensures) ∙ c .before .if2 .taken))
 
--- src/lib.rt:66:9
 returns-3 : tie.Need-returns-3
 unfolding withBit
 returns-3 c = rw (lt-ltb (c .before .before .before .before .args .k) 64 (omega arith), ← c .before .before .bit-on .ensures, c .before .if2 .taken, c .if3 .left, weight (c .before .before .before .before .args .k) (omega arith)) (omega arith)
 
--- src/lib.rt:69:16
 add-result : tie.Need-add-result
 add-result c = rw (weight (c .before .before .before .before .args .k) (omega arith)) (record { fits = (bit-room (c .before .before .before .before .args .k) 64 (c .before .before .before .before .args .w) (omega arith) (c .before .before .before .before .fits .w .fits) (sym (c .before .before .bit-on .ensures) ∙ c .before .if2 .left)) })
 
--- src/lib.rt:69:9
 returns-4 : tie.Need-returns-4
 unfolding withBit
 returns-4 c = rw (lt-ltb (c .before .before .before .before .args .k) 64 (omega arith), ← c .before .before .bit-on .ensures, c .before .if2 .left, c .if4 .taken, weight (c .before .before .before .before .args .k) (omega arith)) (omega arith)
 
--- src/lib.rt:55:1
 returns-5 : tie.Need-returns-5
 unfolding withBit
 returns-5 c = rw (lt-ltb (c .before .before .before .before .args .k) 64 (omega arith), ← c .before .before .bit-on .ensures, c .before .if2 .left, c .if4 .left) (omega arith)

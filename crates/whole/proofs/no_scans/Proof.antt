@@ -7,23 +7,18 @@ use Rattle.whole.proofs.no_scans.Reads as reads
 use Rattle.whole.proofs.no_scans.Lts as lts
 use Rattle.chart.proofs.check.Reads as check-reads
 
--- src/lib.rt:151:9
 check-requires : tie.Need-check-requires
 check-requires c κs = search needs
 
--- src/lib.rt:153:26
 enum-known-v : tie.Need-enum-known-v
 enum-known-v c = search needs
 
--- src/lib.rt:154:47
 enum-told : tie.Need-enum-told
 enum-told c = search needs
 
--- src/lib.rt:141:1
 returns : tie.Need-returns
 returns c = sym (ap noScans (sym (c .before .before .before .check .ensures) ∙ c .before .v .given .1))
 
--- src/lib.rt:141:1
 returns-2 : tie.Need-returns-2
 returns-2 c = sym (ap noScans (sym (c .before .before .check .ensures) ∙ c .enum-told .given .1))
 

@@ -10,51 +10,39 @@ use Rattle.whole.proofs.read_and_run.Lts as lts
 use Rattle.reader.proofs.read.Reads as read-reads
 use Rattle.written_run.proofs.run_words.Reads as run-words-reads
 
--- src/lib.rt:125:9
 read-requires : tie.Need-read-requires
 read-requires c κs = search needs
 
--- src/lib.rt:127:25
 enum-known-read : tie.Need-enum-known-read
 enum-known-read c = search needs
 
--- src/lib.rt:128:22
 enum-known-read-2 : tie.Need-enum-known-read-2
 enum-known-read-2 c = search needs
 
--- src/lib.rt:129:37
 slice-reshare-prefix-run-words : tie.Need-slice-reshare-prefix-run-words
 slice-reshare-prefix-run-words c = omega (arith, read-fits _ (c .before .before .before .before .before .read .ensures) (c .before .read3 .given .1), c .before .before .before .before .before .read .kept .1 .0)
 
--- src/lib.rt:129:37
 slice-aggregate-run-words : tie.Need-slice-aggregate-run-words
 slice-aggregate-run-words c = sym (length-take-le _ _ (slice-reshare-prefix-run-words (c .before)))
 
--- src/lib.rt:129:13
 run-words-requires : tie.Need-run-words-requires
 run-words-requires c κs = search needs
 
--- src/lib.rt:112:1
 same-length : tie.Need-same-length
 same-length c = search needs
 
--- src/lib.rt:112:1
 returns : tie.Need-returns
 returns c c' d e R f h p q = absurd (read-refused c' R _ _ _ _ f h (c .before .before .before .before .before .read .ensures) _ (c .before .read2 .given .1))
 
--- src/lib.rt:112:1
 same-length-2 : tie.Need-same-length-2
 same-length-2 c = search needs
 
--- src/lib.rt:112:1
 same-length-3 : tie.Need-same-length-3
 same-length-3 c = search needs
 
--- src/lib.rt:112:1
 same-length-4 : tie.Need-same-length-4
 same-length-4 c = search needs
 
--- src/lib.rt:112:1
 returns-2 : tie.Need-returns-2
 returns-2 c c' d e R f h p q =
     let t = c .before .before .before .before .before .before .before .before .before .before .before .before .before .read .ensures in

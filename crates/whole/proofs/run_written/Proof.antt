@@ -12,53 +12,42 @@ use Rattle.whole.proofs.run_written.Lts as lts
 use Rattle.translate.proofs.write.Reads as write-reads
 use Rattle.whole.proofs.no_scans.Reads as no-scans-reads
 use Rattle.whole.proofs.read_and_run.Reads as read-and-run-reads
-use Rattle.lengths.proofs.shorter.Reads as shorter-reads
+use Rattle.slices.proofs.shorter.Reads as shorter-reads
 
--- src/lib.rt:184:9
 no-scans-requires : tie.Need-no-scans-requires
 no-scans-requires c κs = search needs
 
--- src/lib.rt:184:9
 returns : tie.Need-returns
 returns c =
     let a = c .before .before .before .before .before .before .before .before .before .before .before .args in
     scans-differ _ (a .inputs .now) (a .text .now) (a .words .now) (a .leaves .now) (a .outputs .now) (inl (c .before .if1 .taken)) _ (c .no-scans .ensures)
 
--- src/lib.rt:187:9
 no-scans-requires-2 : tie.Need-no-scans-requires-2
 no-scans-requires-2 c κs = search needs
 
--- src/lib.rt:187:9
 returns-2 : tie.Need-returns-2
 returns-2 c =
     let a = c .before .before .before .before .before .before .before .before .before .before .before .before .args in
     scans-differ _ (a .inputs .now) (a .text .now) (a .words .now) (a .leaves .now) (a .outputs .now) (inr (c .before .if2 .taken)) _ (c .no-scans2 .ensures)
 
--- src/lib.rt:189:9
 shorter-requires : tie.Need-shorter-requires
 shorter-requires c κs = search needs
 
--- src/lib.rt:197:9
 slice-relend-prefix-write : tie.Need-slice-relend-prefix-write
 slice-relend-prefix-write c = search needs
 
--- src/lib.rt:197:9
 slice-aggregate-write : tie.Need-slice-aggregate-write
 slice-aggregate-write c = simp length-take (omega (arith, c .before .shorter .ensures))
 
--- src/lib.rt:190:9
 write-requires : tie.Need-write-requires
 write-requires c κs = search needs
 
--- src/lib.rt:200:26
 enum-known-w : tie.Need-enum-known-w
 enum-known-w c = search needs
 
--- src/lib.rt:201:24
 enum-known-w-2 : tie.Need-enum-known-w-2
 enum-known-w-2 c = search needs
 
--- src/lib.rt:204:13
 slice-reshare-prefix-read-and-run : tie.Need-slice-reshare-prefix-read-and-run
 slice-reshare-prefix-read-and-run c =
     let a = c .before .before .before .before .before .before .before .before .before .before .before .before .before .before .before .before .before .before .before .args in
@@ -66,41 +55,32 @@ slice-reshare-prefix-read-and-run c =
     let n = wrote-short _ (a .inputs .now) (a .text .now) (a .words .now) (a .leaves .now) (a .outputs .now) (c .before .before .before .before .before .before .before .before .before .if1 .left) (c .before .before .before .before .before .before .before .before .if2 .left) _ (c .before .before .before .before .before .before .before .shorter .ensures) _ _ (w .ensures) _ (c .before .w2 .given .1) in
     omega (arith, n, length-front (a .text .now) (w .last .1 .1 .1 .1 .1 .1 .0) (c .before .before .before .before .before .before .before .shorter .result) (w .kept .1 .1 .1 .1 .1 .1 .0))
 
--- src/lib.rt:204:13
 slice-aggregate-read-and-run : tie.Need-slice-aggregate-read-and-run
 slice-aggregate-read-and-run c = sym (length-take-le _ _ (slice-reshare-prefix-read-and-run (c .before)))
 
--- src/lib.rt:201:30
 read-and-run-requires : tie.Need-read-and-run-requires
 read-and-run-requires c κs = search needs
 
--- src/lib.rt:166:1
 same-length : tie.Need-same-length
 same-length c = search needs
 
--- src/lib.rt:166:1
 returns-3 : tie.Need-returns-3
 returns-3 c =
     let a = c .before .before .before .before .before .before .before .before .before .before .before .before .before .before .before .before .before .before .before .args in
     write-refused _ (a .inputs .now) (a .text .now) (a .words .now) (a .leaves .now) (a .outputs .now) (c .before .before .before .before .before .before .before .before .before .if1 .left) (c .before .before .before .before .before .before .before .before .if2 .left) _ (c .before .before .before .before .before .before .before .shorter .ensures) _ _ (c .before .before .before .before .before .write .ensures) _ (c .before .w .given .1)
 
--- src/lib.rt:166:1
 same-length-2 : tie.Need-same-length-2
 same-length-2 c = search needs
 
--- src/lib.rt:166:1
 same-length-3 : tie.Need-same-length-3
 same-length-3 c = search needs
 
--- src/lib.rt:166:1
 same-length-4 : tie.Need-same-length-4
 same-length-4 c = search needs
 
--- src/lib.rt:166:1
 same-length-5 : tie.Need-same-length-5
 same-length-5 c = search needs
 
--- src/lib.rt:166:1
 returns-4 : tie.Need-returns-4
 returns-4 c =
     let a = c .before .before .before .before .before .before .before .before .before .before .before .before .before .before .before .before .before .before .before .before .before .before .before .before .before .before .before .before .before .before .args in

@@ -11,133 +11,102 @@ use Rattle.lines.proofs.put_part.Reads as put-part-reads
 use Rattle.numbers.proofs.put_operand.Reads as put-operand-reads
 use Rattle.numbers.proofs.put_store.Reads as put-store-reads
 
--- src/lib.rt:78:46
 slice-aggregate-put-part : tie.Need-slice-aggregate-put-part
 slice-aggregate-put-part c = search needs
 
--- src/lib.rt:78:17
 put-part-requires : tie.Need-put-part-requires
 put-part-requires c κs = search needs
 
--- src/lib.rt:79:13
 put-operand-requires : tie.Need-put-operand-requires
 put-operand-requires c κs = search needs
 
--- src/lib.rt:82:46
 slice-aggregate-put-part-2 : tie.Need-slice-aggregate-put-part-2
 slice-aggregate-put-part-2 c = search needs
 
--- src/lib.rt:82:17
 put-part-requires-2 : tie.Need-put-part-requires-2
 put-part-requires-2 c κs = search needs
 
--- src/lib.rt:83:13
 put-operand-requires-2 : tie.Need-put-operand-requires-2
 put-operand-requires-2 c κs = search needs
 
--- src/lib.rt:86:46
 slice-aggregate-put-part-3 : tie.Need-slice-aggregate-put-part-3
 slice-aggregate-put-part-3 c = search needs
 
--- src/lib.rt:86:17
 put-part-requires-3 : tie.Need-put-part-requires-3
 put-part-requires-3 c κs = search needs
 
--- src/lib.rt:87:13
 put-operand-requires-3 : tie.Need-put-operand-requires-3
 put-operand-requires-3 c κs = search needs
 
--- src/lib.rt:90:46
 slice-aggregate-put-part-4 : tie.Need-slice-aggregate-put-part-4
 slice-aggregate-put-part-4 c = search needs
 
--- src/lib.rt:90:17
 put-part-requires-4 : tie.Need-put-part-requires-4
 put-part-requires-4 c κs = search needs
 
--- src/lib.rt:91:13
 put-operand-requires-4 : tie.Need-put-operand-requires-4
 put-operand-requires-4 c κs = search needs
 
--- src/lib.rt:93:39
 slice-aggregate-put-part-5 : tie.Need-slice-aggregate-put-part-5
 slice-aggregate-put-part-5 c = search needs
 
--- src/lib.rt:93:14
 put-part-requires-5 : tie.Need-put-part-requires-5
 put-part-requires-5 c κs = search needs
 
--- src/lib.rt:94:39
 slice-aggregate-put-part-6 : tie.Need-slice-aggregate-put-part-6
 slice-aggregate-put-part-6 c = search needs
 
--- src/lib.rt:94:14
 put-part-requires-6 : tie.Need-put-part-requires-6
 put-part-requires-6 c κs = search needs
 
--- src/lib.rt:95:14
 put-store-requires : tie.Need-put-store-requires
 put-store-requires c κs = search needs
 
--- src/lib.rt:73:1
 same-length : tie.Need-same-length
 same-length c = search needs
 
--- src/lib.rt:73:1
 returns : tie.Need-returns
 unfolding operatorOf operatorText line
 returns c = rw (c .before .before .before .before .before .before .before .before .before .match .keys1) (fit-fit (c .before .before .before .before .before .before .put-part .ensures) (c .before .before .put-operand .ensures))
 
--- src/lib.rt:73:1
 same-length-2 : tie.Need-same-length-2
 same-length-2 c = search needs
 
--- src/lib.rt:73:1
 returns-2 : tie.Need-returns-2
 unfolding operatorOf operatorText line
 returns-2 c = rw (c .before .before .before .before .before .before .before .before .before .match .keys2) (fit-fit (c .before .before .before .before .before .before .put-part2 .ensures) (c .before .before .put-operand2 .ensures))
 
--- src/lib.rt:73:1
 same-length-3 : tie.Need-same-length-3
 same-length-3 c = search needs
 
--- src/lib.rt:73:1
 returns-3 : tie.Need-returns-3
 unfolding operatorOf operatorText line
 returns-3 c = rw (c .before .before .before .before .before .before .before .before .before .match .keys3) (fit-fit (c .before .before .before .before .before .before .put-part3 .ensures) (c .before .before .put-operand3 .ensures))
 
--- src/lib.rt:73:1
 same-length-4 : tie.Need-same-length-4
 same-length-4 c = search needs
 
--- src/lib.rt:73:1
 returns-4 : tie.Need-returns-4
 unfolding operatorOf operatorText line
 returns-4 c = rw (c .before .before .before .before .before .before .before .before .before .match .keys4) (fit-fit (c .before .before .before .before .before .before .put-part4 .ensures) (c .before .before .put-operand4 .ensures))
 
--- src/lib.rt:73:1
 same-length-5 : tie.Need-same-length-5
 same-length-5 c = search needs
 
--- src/lib.rt:73:1
 returns-5 : tie.Need-returns-5
 unfolding operatorOf operatorText line
 returns-5 c = rw (c .before .before .before .before .before .match .keys5) (c .before .before .put-part5 .ensures)
 
--- src/lib.rt:73:1
 same-length-6 : tie.Need-same-length-6
 same-length-6 c = search needs
 
--- src/lib.rt:73:1
 returns-6 : tie.Need-returns-6
 unfolding operatorOf operatorText line
 returns-6 c = rw (c .before .before .before .before .before .match .keys6) (c .before .before .put-part6 .ensures)
 
--- src/lib.rt:73:1
 same-length-7 : tie.Need-same-length-7
 same-length-7 c = search needs
 
--- src/lib.rt:73:1
 returns-7 : tie.Need-returns-7
 unfolding operatorOf
 returns-7 c =

@@ -11,23 +11,18 @@ use Rattle.spelling.proofs.put_end.Reads as put-end-reads
 use Rattle.spelling.proofs.put_head.Reads as put-head-reads
 use Rattle.word_lines.proofs.put_words.Reads as put-words-reads
 
--- src/lib.rt:53:9
 put-head-requires : tie.Need-put-head-requires
 put-head-requires c κs = search needs
 
--- src/lib.rt:54:9
 put-words-requires : tie.Need-put-words-requires
 put-words-requires c κs = search needs
 
--- src/lib.rt:55:5
 put-end-requires : tie.Need-put-end-requires
 put-end-requires c κs = search needs
 
--- src/lib.rt:50:1
 same-length : tie.Need-same-length
 same-length c = search needs
 
--- src/lib.rt:50:1
 returns : tie.Need-returns
 unfolding wordsText
 returns c = rw (← append-assoc (line (bytes "PROGRAM CHART"))) (fit-fit (c .before .before .before .before .before .before .before .before .before .before .put-head .ensures) (fit-fit (c .before .before .before .before .before .before .put-words .ensures) (c .before .before .put-end .ensures)))

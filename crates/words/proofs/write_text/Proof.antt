@@ -1,6 +1,6 @@
 use native.Mathlib.Omega.{arith}
 use lib.ListN.{length, length-take}
-use Rattle.words.specs.Told.{text-short, text-whole}
+use Rattle.lines.specs.WroteLaws.{refuses, writes}
 use borrow.Author.Needs.{needs}
 use Rattle.words.proofs.write_text.Statement.{statement}
 use Rattle.words.proofs.write_text.Tie as tie
@@ -8,39 +8,31 @@ use Rattle.words.proofs.write_text.Reads as reads
 use Rattle.words.proofs.write_text.Lts as lts
 use Rattle.words.proofs.put_text.Reads as put-text-reads
 
--- src/lib.rt:62:27
 slice-relend-prefix-put-text : tie.Need-slice-relend-prefix-put-text
 slice-relend-prefix-put-text c = search needs
 
--- src/lib.rt:62:27
 slice-aggregate-put-text : tie.Need-slice-aggregate-put-text
 slice-aggregate-put-text c =
     let l = c .before .before .before .args .out .now in
     omega (arith, length-take 0 l, length-take (length l) l)
 
--- src/lib.rt:62:9
 put-text-requires : tie.Need-put-text-requires
 put-text-requires c κs = search needs
 
--- src/lib.rt:64:9
 same-length : tie.Need-same-length
 same-length c = search needs
 
--- src/lib.rt:64:9
 returns : tie.Need-returns
-returns c = text-short (c .before .before .before .before .before .before .before .args .out .now) (c .before .before .before .put-text .ensures) (c .if1 .taken)
+returns c = refuses _ (c .before .before .before .before .before .before .before .args .out .now) _ _ (c .before .before .before .put-text .ensures) (c .if1 .taken)
 
--- src/lib.rt:66:9
 put-text-requires-2 : tie.Need-put-text-requires-2
 put-text-requires-2 c κs = search needs
 
--- src/lib.rt:59:1
 same-length-2 : tie.Need-same-length-2
 same-length-2 c = search needs
 
--- src/lib.rt:59:1
 returns-2 : tie.Need-returns-2
-returns-2 c = text-whole (c .before .before .before .before .before .before .before .before .before .before .before .args .out .now) (search needs) (c .before .before .before .before .before .before .before .put-text .ensures) (c .before .before .before .before .if1 .left) (c .before .before .put-text2 .ensures)
+returns-2 c = writes _ (c .before .before .before .before .before .before .before .before .before .before .before .args .out .now) _ _ (c .before .before .before .before .before .before .before .put-text .ensures) (search needs) (c .before .before .before .before .if1 .left) (c .before .before .put-text2 .ensures)
 
 pub write-text-spec : {M : Type 1} → statement M
 write-text-spec =

@@ -1,4 +1,3 @@
-use mathlib.Core.Path.{_≡_}
 use Rattle.layout.specs.LaidLaws.{total-is}
 use Rattle.bits.specs.Sent.{laid, Drawn}
 use Rattle.sections.specs.SectionLaws.{timer-count}

@@ -1,6 +1,7 @@
 use native.Mathlib.Omega.{arith}
 use lib.ListN.{length, length-take}
-use Rattle.writer.specs.WroteLaws.{refuses, writes}
+use Rattle.format.specs.Printed.{chartText}
+use Rattle.lines.specs.WroteLaws.{refuses, writes}
 use borrow.Author.Needs.{needs}
 use Rattle.writer.proofs.write_checked.Statement.{statement}
 use Rattle.writer.proofs.write_checked.Tie as tie
@@ -9,49 +10,40 @@ use Rattle.writer.proofs.write_checked.Lts as lts
 use Rattle.layout.proofs.lay_out.Reads as lay-out-reads
 use Rattle.writer.proofs.put_text.Reads as put-text-reads
 
--- src/lib.rt:181:9
 lay-out-requires : tie.Need-lay-out-requires
 lay-out-requires c κs = search needs
 
--- src/lib.rt:188:9
 slice-relend-prefix-put-text : tie.Need-slice-relend-prefix-put-text
 slice-relend-prefix-put-text c = search needs
 
--- src/lib.rt:188:9
 slice-aggregate-put-text : tie.Need-slice-aggregate-put-text
 slice-aggregate-put-text c =
     let l = c .before .before .before .before .before .before .before .before .before .before .args .out .now in
     omega (arith, length-take 0 l, length-take (length l) l)
 
--- src/lib.rt:187:9
 put-text-requires : tie.Need-put-text-requires
 put-text-requires c κs = search needs
 
--- src/lib.rt:201:9
 same-length : tie.Need-same-length
 same-length c = search needs
 
--- src/lib.rt:201:9
 returns : tie.Need-returns
 returns c c' g =
     let l = c .before .before .before .before .before .before .before .before .before .before .before .before .before .before .before .before .before .args .out .now in
     let y = c .before .before .before .before .before .before .before .before .before .before .before .lay-out .ensures c' (g .lent .states) in
-    refuses c' l (omega arith) _ _ (c .before .before .before .put-text .ensures c' g y) (omega arith)
+    refuses (chartText c') l _ _ (c .before .before .before .put-text .ensures c' g y) (omega arith)
 
--- src/lib.rt:203:5
 put-text-requires-2 : tie.Need-put-text-requires-2
 put-text-requires-2 c κs = search needs
 
--- src/lib.rt:169:1
 same-length-2 : tie.Need-same-length-2
 same-length-2 c = search needs
 
--- src/lib.rt:169:1
 returns-2 : tie.Need-returns-2
 returns-2 c c' g =
     let l = c .before .before .before .before .before .before .before .before .before .before .before .before .before .before .before .before .before .before .before .before .before .before .before .before .args .out .now in
     let y = c .before .before .before .before .before .before .before .before .before .before .before .before .before .before .before .before .before .before .lay-out .ensures c' (g .lent .states) in
-    writes c' l (omega (arith, c .before .before .before .before .before .before .before .before .before .before .before .before .before .before .before .before .before .before .before .before .before .before .before .before .good .1 .1 .1 .1 .1 .1 .0)) _ _ (c .before .before .before .before .before .before .before .before .before .before .put-text .ensures c' g y) (omega (arith, c .before .before .before .before .before .before .before .if1 .left)) (c .before .before .put-text2 .ensures c' g y)
+    writes (chartText c') l _ _ (c .before .before .before .before .before .before .before .before .before .before .put-text .ensures c' g y) (omega (arith, c .before .before .before .before .before .before .before .before .before .before .before .before .before .before .before .before .before .before .before .before .before .before .before .before .good .1 .1 .1 .1 .1 .1 .0)) (omega (arith, c .before .before .before .before .before .before .before .if1 .left)) (c .before .before .put-text2 .ensures c' g y)
 
 pub write-checked-spec : {M : Type 1} → statement M
 write-checked-spec =

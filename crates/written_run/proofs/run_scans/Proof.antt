@@ -20,35 +20,27 @@ Inv-loop step states laid words flip-flops₀ inputs leaves₀ outputs₀ blocks
 abbrev μ-loop : tie.MeasureT-loop
 μ-loop step states laid words flip-flops₀ inputs leaves₀ outputs₀ blocks₀ i₀ flip-flops leaves outputs blocks i = length inputs - i
 
--- src/lib.rt:72:5
 loop-holds : tie.Need-loop-holds Inv-loop μ-loop
 loop-holds c = (refl, refl, refl, λ c' g p q. going-start c' (g .rules) _ _ _ _ (g .clear))
 
--- src/lib.rt:73:44
 mul-scan-array : tie.Need-mul-scan-array Inv-loop μ-loop
 mul-scan-array c = search needs
 
--- src/lib.rt:73:44
 shared-slice-read-scan-array : tie.Need-shared-slice-read-scan-array Inv-loop μ-loop
 shared-slice-read-scan-array c = omega arith
 
--- src/lib.rt:73:13
 scan-array-requires : tie.Need-scan-array-requires Inv-loop μ-loop
 scan-array-requires c κs = tt
 
--- src/lib.rt:76:9
 show-requires : tie.Need-show-requires Inv-loop μ-loop
 show-requires c κs = tt
 
--- src/lib.rt:77:9
 add-i : tie.Need-add-i Inv-loop μ-loop
 add-i c = record { fits = (let h = c .before .before .before .before .before .before .before .before .before .before .before .before .before .before .loop-test .taken in omega (arith, h, c .before .before .before .before .before .before .before .before .before .before .before .before .before .before .before .before .before .before .before .before .before .before .good .1 .1 .1 .1 .1 .0)) }
 
--- src/lib.rt:72:5
 loop-less : tie.Need-loop-less Inv-loop μ-loop
 loop-less c = omega arith
 
--- src/lib.rt:72:5
 loop-again : tie.Need-loop-again Inv-loop μ-loop
 loop-again c =
     let a = c .before .before .before .before .before .before .before .before .before .before .before .before .before .before .before .before .before .before .before .before .before .before .args in
@@ -65,19 +57,15 @@ loop-again c =
           rw (s .ensures .1 c' (g .states) (g .rules) (g .laid), s .ensures .0) n,
     )
 
--- src/lib.rt:49:1
 same-length : tie.Need-same-length Inv-loop μ-loop
 same-length c = c .before .loop .inv .0
 
--- src/lib.rt:49:1
 same-length-2 : tie.Need-same-length-2 Inv-loop μ-loop
 same-length-2 c = c .before .loop .inv .1
 
--- src/lib.rt:49:1
 same-length-3 : tie.Need-same-length-3 Inv-loop μ-loop
 same-length-3 c = c .before .loop .inv .2
 
--- src/lib.rt:49:1
 returns : tie.Need-returns Inv-loop μ-loop
 returns c c' g p q =
     let a = c .before .before .before .before .before .before .before .before .args in

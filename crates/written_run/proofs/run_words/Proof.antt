@@ -11,43 +11,33 @@ use Rattle.written_run.proofs.run_words.Lts as lts
 use Rattle.layout.proofs.lay_out.Reads as lay-out-reads
 use Rattle.written_run.proofs.run_scans.Reads as run-scans-reads
 
--- src/lib.rt:92:9
 lay-out-requires : tie.Need-lay-out-requires
 lay-out-requires c κs = search needs
 
--- src/lib.rt:95:9
 returns : tie.Need-returns
 returns c c' d e R f p q = absurd (omega (arith, R .flipFlop .few, total-is c' _ (c .before .lay-out .ensures c' e) (R .size .fewStates)))
 
--- src/lib.rt:97:21
 cast-used : tie.Need-cast-used
 cast-used c = search needs
 
--- src/lib.rt:97:16
 mul-used : tie.Need-mul-used
 mul-used c = search needs
 
--- src/lib.rt:104:9
 array-borrow-prefix-flip-flops : tie.Need-array-borrow-prefix-flip-flops
 array-borrow-prefix-flip-flops c = search needs
 
--- src/lib.rt:104:9
 slice-aggregate-run-scans : tie.Need-slice-aggregate-run-scans
 slice-aggregate-run-scans c = simp (length-take, length-replicate) (omega arith)
 
--- src/lib.rt:99:5
 run-scans-requires : tie.Need-run-scans-requires
 run-scans-requires c κs = search needs
 
--- src/lib.rt:80:1
 same-length : tie.Need-same-length
 same-length c = search needs
 
--- src/lib.rt:80:1
 same-length-2 : tie.Need-same-length-2
 same-length-2 c = search needs
 
--- src/lib.rt:80:1
 returns-2 : tie.Need-returns-2
 returns-2 c c' d e R f p q =
     let o = c .before .before .before .before .before .before .before .before .before .before .lay-out .ensures c' e in

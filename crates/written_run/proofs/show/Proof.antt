@@ -4,31 +4,25 @@ use Rattle.written_run.proofs.show.Statement.{statement}
 use Rattle.written_run.proofs.show.Tie as tie
 use Rattle.written_run.proofs.show.Reads as reads
 use Rattle.written_run.proofs.show.Lts as lts
-use Rattle.il.proofs.put_word.Reads as put-word-reads
+use Rattle.slices.proofs.put_word.Reads as put-word-reads
 use Rattle.moving.proofs.remember.Reads as remember-reads
 use Rattle.shown.proofs.laid_leaf.Reads as laid-leaf-reads
 
--- src/lib.rt:44:33
 laid-leaf-requires : tie.Need-laid-leaf-requires
 laid-leaf-requires c κs = search needs
 
--- src/lib.rt:44:5
 remember-requires : tie.Need-remember-requires
 remember-requires c κs = search needs
 
--- src/lib.rt:45:5
 put-word-requires : tie.Need-put-word-requires
 put-word-requires c κs = search needs
 
--- src/lib.rt:32:1
 same-length : tie.Need-same-length
 same-length c = search needs
 
--- src/lib.rt:32:1
 same-length-2 : tie.Need-same-length-2
 same-length-2 c = search needs
 
--- src/lib.rt:32:1
 returns : tie.Need-returns
 returns c = (c .before .before .put-word .ensures, λ c' e R o. let r = c .before .before .before .before .before .before .before .laid-leaf .ensures c' e R o in rw (r .0) at (c .before .before .before .before .before .before .remember .ensures (omega (arith, r .1))))
 

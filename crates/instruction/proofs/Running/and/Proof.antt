@@ -5,19 +5,15 @@ use Rattle.instruction.proofs.Running.and.Reads as reads
 use Rattle.instruction.proofs.Running.and.Lts as lts
 use Rattle.instruction.proofs.Running.load.Reads as load-reads
 
--- src/lib.rt:121:13
 load-requires : tie.Need-load-requires
 load-requires c κs = search needs
 
--- src/lib.rt:121:13
 returns : tie.Need-returns
 returns c = rw (c .before .if1 .taken) (c .load .ensures)
 
--- src/lib.rt:123:9
 load-requires-2 : tie.Need-load-requires-2
 load-requires-2 c κs = search needs
 
--- src/lib.rt:116:5
 returns-2 : tie.Need-returns-2
 returns-2 c = rw (c .before .if1 .left) (c .load2 .ensures)
 

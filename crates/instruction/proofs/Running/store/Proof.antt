@@ -8,95 +8,74 @@ use Rattle.instruction.proofs.Running.store_in.Reads as store-in-reads
 use Rattle.instruction.proofs.Running.store_output.Reads as store-output-reads
 use Rattle.instruction.proofs.Running.store_pt.Reads as store-pt-reads
 
--- src/lib.rt:180:31
 enum-told : tie.Need-enum-told
 enum-told c = search needs
 
--- src/lib.rt:181:31
 enum-told-2 : tie.Need-enum-told-2
 enum-told-2 c = search needs
 
--- src/lib.rt:182:25
 enum-known-o : tie.Need-enum-known-o
 enum-known-o c = search needs
 
--- src/lib.rt:182:31
 store-output-requires : tie.Need-store-output-requires
 store-output-requires c κs = search needs
 
--- src/lib.rt:183:35
 enum-told-3 : tie.Need-enum-told-3
 enum-told-3 c = search needs
 
--- src/lib.rt:184:36
 enum-told-4 : tie.Need-enum-told-4
 enum-told-4 c = search needs
 
--- src/lib.rt:184:36
 store-in-requires : tie.Need-store-in-requires
 store-in-requires c κs = search needs
 
--- src/lib.rt:185:36
 enum-told-5 : tie.Need-enum-told-5
 enum-told-5 c = search needs
 
--- src/lib.rt:185:36
 store-pt-requires : tie.Need-store-pt-requires
 store-pt-requires c κs = search needs
 
--- src/lib.rt:186:34
 enum-told-6 : tie.Need-enum-told-6
 enum-told-6 c = search needs
 
--- src/lib.rt:187:31
 enum-told-7 : tie.Need-enum-told-7
 enum-told-7 c = search needs
 
--- src/lib.rt:188:30
 enum-told-8 : tie.Need-enum-told-8
 enum-told-8 c = search needs
 
--- src/lib.rt:176:5
 returns : tie.Need-returns
 unfolding storedTo
 returns c = rw (c .enum-told .given .1)
 
--- src/lib.rt:176:5
 returns-2 : tie.Need-returns-2
 unfolding storedTo
 returns-2 c = rw (c .enum-told2 .given .1)
 
--- src/lib.rt:176:5
 returns-3 : tie.Need-returns-3
 unfolding storedTo
 returns-3 c = rw (c .before .before .o .given .1, c .store-output .ensures)
 
--- src/lib.rt:176:5
 returns-4 : tie.Need-returns-4
 unfolding storedTo
 returns-4 c = rw (c .enum-told3 .given .1)
 
--- src/lib.rt:176:5
 returns-5 : tie.Need-returns-5
 unfolding storedTo
 returns-5 c = rw (c .before .enum-told4 .given .1, c .store-in .ensures)
 
--- src/lib.rt:176:5
 returns-6 : tie.Need-returns-6
 unfolding storedTo
 returns-6 c = rw (c .before .enum-told5 .given .1, c .store-pt .ensures)
 
--- src/lib.rt:176:5
 returns-7 : tie.Need-returns-7
 unfolding storedTo
 returns-7 c = rw (c .enum-told6 .given .1)
 
--- src/lib.rt:176:5
 returns-8 : tie.Need-returns-8
 unfolding storedTo
 returns-8 c = rw (c .enum-told7 .given .1)
 
--- src/lib.rt:176:5
 returns-9 : tie.Need-returns-9
 unfolding storedTo
 returns-9 c = rw (c .enum-told8 .given .1)

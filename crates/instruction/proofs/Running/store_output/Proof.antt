@@ -6,15 +6,12 @@ use Rattle.instruction.proofs.Running.store_output.Lts as lts
 use Rattle.values.proofs.from_zero.Reads as from-zero-reads
 use Rattle.values.proofs.with_bit.Reads as with-bit-reads
 
--- src/lib.rt:171:42
 from-zero-requires : tie.Need-from-zero-requires
 from-zero-requires c κs = search needs
 
--- src/lib.rt:171:9
 with-bit-requires : tie.Need-with-bit-requires
 with-bit-requires c κs = search needs
 
--- src/lib.rt:166:5
 returns : tie.Need-returns
 returns c = rw (c .with-bit .ensures, c .before .from-zero .ensures)
 

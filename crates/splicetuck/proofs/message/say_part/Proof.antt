@@ -15,55 +15,42 @@ Inv-loop text n left₀ from₀ at₀ left from at = from ≤ at
 abbrev μ-loop : tie.MeasureT-loop
 μ-loop text n left₀ from₀ at₀ left from at = length text - at
 
--- src/message.rt:16:5
 loop-holds : tie.Need-loop-holds Inv-loop μ-loop
 loop-holds c = search needs
 
--- src/message.rt:17:12
 shared-slice-read-if1 : tie.Need-shared-slice-read-if1 Inv-loop μ-loop
 shared-slice-read-if1 c = search needs
 
--- src/message.rt:19:21
 sub-say : tie.Need-sub-say Inv-loop μ-loop
 sub-say c = search needs
 
--- src/message.rt:19:21
 part-say-start : tie.Need-part-say-start Inv-loop μ-loop
 part-say-start c = search needs
 
--- src/message.rt:19:21
 part-say-end : tie.Need-part-say-end Inv-loop μ-loop
 part-say-end c = search needs
 
--- src/message.rt:19:17
 say-requires : tie.Need-say-requires Inv-loop μ-loop
 say-requires c κs = search needs
 
--- src/message.rt:20:17
 returns : tie.Need-returns Inv-loop μ-loop
 returns c = search needs
 
--- src/message.rt:22:13
 sub-left : tie.Need-sub-left Inv-loop μ-loop
 sub-left c = search needs
 
--- src/message.rt:23:20
 add-from : tie.Need-add-from Inv-loop μ-loop
 add-from c = search needs
 
--- src/message.rt:25:9
 add-at : tie.Need-add-at Inv-loop μ-loop
 add-at c = search needs
 
--- src/message.rt:16:5
 loop-less : tie.Need-loop-less Inv-loop μ-loop
 loop-less c = search needs
 
--- src/message.rt:16:5
 loop-again : tie.Need-loop-again Inv-loop μ-loop
 loop-again c = ⊎-elim (λ w. omega arith) (λ w. omega arith) (c .if1 .came)
 
--- src/message.rt:12:1
 returns-2 : tie.Need-returns-2 Inv-loop μ-loop
 returns-2 c = search needs
 

@@ -1,0 +1,29 @@
+-- What a writer of text answers and leaves, and that it has no second answer.
+use mathlib.Core.Path.{_≡_, sym, _∙_}
+use mathlib.Core.Bool.{cond}
+use mathlib.Core.List.{List}
+use Prim.Native.Nat.{ℕ}
+use lib.ListN.{length}
+use lib.Dec.{leb}
+use Rattle.meaning.specs.Calls.{overlaid}
+use Rattle.meaning.specs.declared.Refusal.the-variants as R
+use Rattle.format.specs.Places.{room}
+use Rattle.format.specs.declared.Written.{Written}
+use Rattle.format.specs.declared.Written.the-variants.{Wrote, Refused}
+
+-- the length of the text t where the slice l has room for it, else ROOM with that length
+abbrev pub textAnswer : List ℕ → List ℕ → Written
+textAnswer t l = cond (leb (length t) (length l)) (Wrote (length t)) (Refused (R.Room (room (length t))))
+
+-- "An accepted call writes its result from the front and keeps the rest of the slice."; "A refusal writes nothing."
+abbrev pub textLeft : List ℕ → List ℕ → List ℕ
+textLeft t l = cond (leb (length t) (length l)) (overlaid t l) l
+
+-- the text t into a slice that held l and holds m afterwards, with the answer a
+pub record TextWritten (t l : List ℕ) (a : Written) (m : List ℕ) : Type 0 where
+  pub answer : a ≡ textAnswer t l
+  pub out : m ≡ textLeft t l
+
+-- no second answer
+pub text-written-same : {t l : List ℕ} {a b : Written} {m n : List ℕ} → TextWritten t l a m → TextWritten t l b n → (a ≡ b) × (m ≡ n)
+text-written-same x y = (x .answer ∙ sym (y .answer), x .out ∙ sym (y .out))
