@@ -1,5 +1,6 @@
 use Rattle.format.specs.Phases.{store}
 use mathlib.Core.Bool.{and-false}
+use native.Mathlib.Omega.{arith}
 use borrow.Author.Tests.{le-leb, lt-leb}
 use borrow.Author.Needs.{needs}
 use Rattle.phase.proofs.store.Statement.{statement}
@@ -15,7 +16,7 @@ to-requires c κs = search needs
 
 returns : tie.Need-returns
 unfolding store
-returns c = rw (lt-leb (c .before .before .before .args .s .named) (c .before .before .before .args .s .timers) (c .before .if1 .taken), and-false) (c .to .ensures)
+returns c = rw (lt-leb (c .before .before .before .args .s .named) (c .before .before .before .args .s .timers) (omega (arith, c .before .if1 .taken)), and-false) (c .to .ensures)
 
 is-at-requires : tie.Need-is-at-requires
 is-at-requires c κs = search needs

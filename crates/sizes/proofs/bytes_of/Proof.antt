@@ -1,7 +1,7 @@
-use Rattle.sizes.specs.Bytes.{bytes-tested, bytes-stored, bytes-bracket}
-use Rattle.format.specs.Decode.{decoded}
+use Rattle.sizes.specs.Bytes.{bytesIn, bytes-tested, bytes-stored, bytes-bracket}
+use Rattle.format.specs.Decode.{decoded, unpacked}
 use native.Mathlib.Numerals.{add-one}
-use Prim.Native.Nat.{_/_, _%_}
+use Prim.Native.Nat.{_+_, _/_, _%_}
 use mathlib.Core.Path.{_≡_}
 use native.Mathlib.Omega.{arith}
 use borrow.Author.Needs.{needs}
@@ -30,7 +30,10 @@ add-result-2 c = search needs
 
 returns-2 : tie.Need-returns-2
 unfolding decoded
-returns-2 c = let a = c .before .before .before .before .args in rw add-one (bytes-stored (a .w / 134217728) (a .w % 134217728) (omega arith) (omega arith) (omega arith))
+returns-2 c =
+    let a = c .before .before .before .before .args in
+    let e : a .w % 134217728 + 1 ≡ bytesIn (unpacked (a .w / 134217728) (a .w % 134217728)) = rw add-one (bytes-stored (a .w / 134217728) (a .w % 134217728) (omega arith) (omega arith) (omega arith)) in
+    e
 
 returns-3 : tie.Need-returns-3
 unfolding decoded
