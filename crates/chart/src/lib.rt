@@ -24,7 +24,7 @@ fn judge_literal(inputs: u32, timers: usize, moves: &[i16], asks: &mut [u64]) ->
         × (isRefused r ≡ false → moveCount c ≤ length (now (asks .entry)) / 4 → WordsTo c (moveCount c) (now (asks .exit)))) ⌝ }
 {
     let mut i = 0;
-    while i < moves.len() / 11 {
+    while i < moves.len() / Chart::MOVE_ROW {
         if !literals::literal_passes(inputs, timers, moves, i, asks) {
             return Verdict::Refused(Refusal::Literal(i));
         }
@@ -39,7 +39,7 @@ fn judge_idle(moves: &[i16], asks: &[u64], below: &[u64]) -> Verdict
     ensures { λ r. ⌜ ((c : Tables) → c .moves ≡ now (moves .entry) → Below c (now (below .entry)) → Sources c → Worded c (now (asks .entry)) → r ≡ verdictOf (idleCheck c ∷ [])) ⌝ }
 {
     let mut i = 0;
-    while i < moves.len() / 11 {
+    while i < moves.len() / Chart::MOVE_ROW {
         if !idle::idle_passes(moves, asks, below, i) {
             return Verdict::Refused(Refusal::IdleTimer(i));
         }
@@ -87,7 +87,7 @@ fn judge_overlap(states: &[u16], moves: &[i16], asks: &[u64]) -> Verdict
     ensures { λ r. ⌜ ((c : Tables) → c .states ≡ now (states .entry) → c .moves ≡ now (moves .entry) → Falling c → Worded c (now (asks .entry)) → r ≡ verdictOf (overlapCheck c ∷ [])) ⌝ }
 {
     let mut i = 0;
-    while i < moves.len() / 11 {
+    while i < moves.len() / Chart::MOVE_ROW {
         if !overlap::overlap_passes(states, moves, asks, i) {
             return Verdict::Refused(Refusal::Overlap(i));
         }
@@ -124,7 +124,7 @@ fn rows(
         Rule::Preset => presets.len(),
         Rule::TimerPair => timer_pairs.len() / 2,
         Rule::OutputPair => output_pairs.len() / 2,
-        Rule::Move => moves.len() / 11,
+        Rule::Move => moves.len() / Chart::MOVE_ROW,
     }
 }
 
@@ -349,7 +349,7 @@ fn judge_moves(
         return source;
     }
     let inputs = chart.inputs;
-    if moves.len() / 11 <= 16 {
+    if moves.len() / Chart::MOVE_ROW <= 16 {
         let mut asks = [0u64; 64];
         return judge_asks(inputs, states, moves, presets, timer_pairs, &mut asks);
     }

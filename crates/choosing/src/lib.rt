@@ -37,7 +37,7 @@ pub fn make_asks(moves: &[i16], asks: &mut [u64])
     ensures { λ _. ⌜ ((c : Tables) → c .moves ≡ now (moves .entry) → Rules c → moveCount c ≤ length (now (asks .entry)) / 4 → AskedTo c (moveCount c) (now (asks .exit))) ⌝ }
 {
     let mut i = 0;
-    while i < moves.len() / 11 {
+    while i < moves.len() / Chart::MOVE_ROW {
         asks::put_words(asks, i, asks_of(moves, i));
         i += 1;
     }
@@ -66,7 +66,7 @@ pub fn make_links(moves: &[i16], links: &mut [u16])
         → LinkedTo c (moveCount c) (now (links .exit))) ⌝ }
 {
     let mut i = 0;
-    while i < moves.len() / 11 {
+    while i < moves.len() / Chart::MOVE_ROW {
         if Chart::MOVES <= i {
             return;
         }
@@ -139,10 +139,10 @@ pub fn chosen(
             return j - 1;
         }
         if s == 0 {
-            return moves.len() / 11;
+            return moves.len() / Chart::MOVE_ROW;
         }
         s = tables::super_state(states, s);
         k += 1;
     }
-    moves.len() / 11
+    moves.len() / Chart::MOVE_ROW
 }

@@ -5,6 +5,7 @@ use Prim.Native.Nat.{ℕ, _*_, min}
 use lib.Seq.{sets}
 use lib.IntN.{ℤ}
 use Rattle.meaning.specs.Once.{Once, is-once}
+use Rattle.meaning.specs.Tables.{moveRow}
 use Rattle.ended.specs.Decimals.{signedOf}
 use Rattle.columns.specs.Low.{low16, low32}
 
@@ -26,5 +27,5 @@ ones-once rows room = is-once (min rows room)
 pub twos-once : (rows room : ℕ) → Once (λ r. r ≡ min (2 * rows) room)
 twos-once rows room = is-once (min (2 * rows) room)
 
-pub elevens-once : (rows room : ℕ) → Once (λ r. r ≡ min (11 * rows) room)
-elevens-once rows room = is-once (min (11 * rows) room)
+pub elevens-once : (rows room : ℕ) → Once (λ r. r ≡ min (moveRow * rows) room)
+elevens-once rows room = is-once (min (moveRow * rows) room)

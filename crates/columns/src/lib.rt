@@ -1,8 +1,10 @@
 // The numbers that the reader of records stores, each in the type of its table, and how many of them a table has.
+use tables::Chart;
 ghost use mathlib.Core.Path.{_≡_};
 ghost use mathlib.Core.List.{map};
 ghost use Prim.Native.Nat.{_*_, min};
 ghost use lib.Seq.{sets};
+ghost use Rattle.meaning.specs.Tables.{moveRow};
 ghost use Rattle.ended.specs.Decimals.{signedOf};
 ghost use Rattle.columns.specs.Low.{low16, low32};
 
@@ -71,10 +73,10 @@ pub fn twos(rows: usize, room: usize) -> usize
 
 // How many numbers so many rows of eleven have, as far as there is room.
 pub fn elevens(rows: usize, room: usize) -> usize
-    ensures { λ r. ⌜ r ≡ min (11 * rows) room ⌝ }
+    ensures { λ r. ⌜ r ≡ min (moveRow * rows) room ⌝ }
 {
-    if room / 11 < rows {
+    if room / Chart::MOVE_ROW < rows {
         return room;
     }
-    slices::shorter(11 * rows, room)
+    slices::shorter(Chart::MOVE_ROW * rows, room)
 }

@@ -25,7 +25,7 @@ frameFits inputs outputs step = leb inputs mostInputs && leb outputs mostOutputs
 -- the three are all of SIZE
 pub size-parts : (c : Tables) → sizePasses c
     ≡ (rowsWhole (length (c .states)) (length (c .moves)) (length (c .timerPairs)) (length (c .outputPairs))
-    && countsFit (length (c .states) / 2) (length (c .moves) / 11) (length (c .presets)) (length (c .timerPairs) / 2) (length (c .outputPairs) / 2)
+    && countsFit (length (c .states) / 2) (length (c .moves) / moveRow) (length (c .presets)) (length (c .timerPairs) / 2) (length (c .outputPairs) / 2)
     && frameFits (c .inputs) (c .outputs) (c .step))
 unfolding sizePasses stateCount moveCount timerCount pairCount
 size-parts c = simp and-assoc

@@ -13,7 +13,7 @@ fn rows_whole(states: &[u16], moves: &[i16], timer_pairs: &[u16], output_pairs: 
     if states.len() % 2 != 0 {
         return false;
     }
-    if moves.len() % 11 != 0 {
+    if moves.len() % Chart::MOVE_ROW != 0 {
         return false;
     }
     if timer_pairs.len() % 2 != 0 {
@@ -82,7 +82,7 @@ pub fn size_passes(
     }
     if !counts_fit(
         states.len() / 2,
-        moves.len() / 11,
+        moves.len() / Chart::MOVE_ROW,
         presets.len(),
         timer_pairs.len() / 2,
         output_pairs.len() / 2,

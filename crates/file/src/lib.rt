@@ -1,6 +1,7 @@
 // One of the seven files as a whole: its numbers from the front of a slice, or why it is refused.
 use meaning::Refusal;
 use passing::Reader;
+use tables::Chart;
 ghost use mathlib.Core.Path.{_≡_};
 ghost use Rattle.file.specs.Reads.{readerFor, rowFor, Passed, RecordsRead};
 
@@ -42,7 +43,7 @@ fn row_for(file: File) -> usize
     match file {
         File::Frame => 3,
         File::States => 2,
-        File::Moves => 11,
+        File::Moves => Chart::MOVE_ROW,
         File::Presets => 1,
         File::TimerPairs => 2,
         File::OutputPairs => 2,

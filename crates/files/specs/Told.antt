@@ -3,6 +3,7 @@ use mathlib.Core.Path.{_≡_, sym, _∙_}
 use Prim.Native.Nat.{ℕ, _*_, min}
 use mathlib.Core.List.{List}
 use lib.ListN.{getD}
+use Rattle.meaning.specs.Tables.{moveRow}
 use Rattle.meaning.specs.declared.Verdict.{Verdict}
 use Rattle.meaning.specs.declared.Verdict.the-variants.{Accepted, Refused}
 use Rattle.columns.specs.Low.{low32}
@@ -31,7 +32,7 @@ chartFrom frame = record { step = low32 (getD frame 0 0); inputs = low32 (getD f
 -- how many numbers stand in the arrays
 pub record Counted (a : Answers) (n : Counts) : Type 0 where
   pub states : n .states ≡ min (2 * rowsOf (a .states)) 514
-  pub moves : n .moves ≡ min (11 * rowsOf (a .moves)) 5643
+  pub moves : n .moves ≡ min (moveRow * rowsOf (a .moves)) 5643
   pub presets : n .presets ≡ min (rowsOf (a .presets)) 33
   pub timerPairs : n .«timer_pairs» ≡ min (2 * rowsOf (a .«timer_pairs»)) 4098
   pub outputPairs : n .«output_pairs» ≡ min (2 * rowsOf (a .«output_pairs»)) 4098

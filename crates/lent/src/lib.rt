@@ -6,7 +6,7 @@ ghost use mathlib.Core.Path.{_≡_};
 ghost use mathlib.Core.Bool.{true};
 ghost use Prim.Native.Nat.{_≤_, _/_};
 ghost use lib.ListN.{length};
-ghost use Rattle.meaning.specs.Tables.{Tables};
+ghost use Rattle.meaning.specs.Tables.{Tables, moveRow};
 ghost use Rattle.meaning.specs.Rules.{Rules};
 ghost use Rattle.machine.specs.Held.{Given};
 ghost use Rattle.lent.specs.Slice.{LentRun, Room};
@@ -73,12 +73,12 @@ fn run_in(
 }
 
 fn is_small(states: &[u16], moves: &[i16]) -> bool
-    ensures { λ r. ⌜ (r ≡ true → (length (now (states .entry)) / 2 ≤ 32) × (length (now (moves .entry)) / 11 ≤ 32)) ⌝ }
+    ensures { λ r. ⌜ (r ≡ true → (length (now (states .entry)) / 2 ≤ 32) × (length (now (moves .entry)) / moveRow ≤ 32)) ⌝ }
 {
     if 32 < states.len() / 2 {
         return false;
     }
-    moves.len() / 11 <= 32
+    moves.len() / Chart::MOVE_ROW <= 32
 }
 
 fn run_large(

@@ -19,7 +19,7 @@ fn leaf_after(states: &[u16], moves: &[i16], i: usize, l: usize, memory: &mut [u
         → (take (stateCount c) (now (memory .exit)) ≡ cond (ltb i (moveCount c)) (moved c i (take (stateCount c) (now (memory .entry)))) (take (stateCount c) (now (memory .entry))))
         × (Sound c (take (stateCount c) (now (memory .exit))) → r ≡ activeLeaf c (take (stateCount c) (now (memory .exit))))) ⌝ }
 {
-    if moves.len() / 11 <= i {
+    if moves.len() / Chart::MOVE_ROW <= i {
         return l;
     }
     moving::enter(states, moves, i, memory);

@@ -59,7 +59,7 @@ pub fn enter(states: &[u16], moves: &[i16], i: usize, memory: &mut [u16])
     ensures { λ _. ⌜ ((c : Tables) → c .states ≡ now (states .entry) → c .moves ≡ now (moves .entry) → Rules c → stateCount c ≤ length (now (memory .entry))
         → take (stateCount c) (now (memory .exit)) ≡ cond (ltb i (moveCount c)) (moved c i (take (stateCount c) (now (memory .entry)))) (take (stateCount c) (now (memory .entry)))) ⌝ }
 {
-    if moves.len() / 11 <= i {
+    if moves.len() / Chart::MOVE_ROW <= i {
         return;
     }
     let t = tables::target(moves, i);

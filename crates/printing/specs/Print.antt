@@ -7,7 +7,7 @@ use mathlib.Core.List.{List, [], _∷_, _++_, map, append-nil}
 use lib.ListN.{length, getD, take, replicate, length-map, length-replicate, drop-of-length-le}
 use lib.Seq.{sets, take-all, sets-eq}
 use lib.IntN.{pos}
-use Rattle.meaning.specs.Tables.{Tables}
+use Rattle.meaning.specs.Tables.{Tables, moveRow}
 use Rattle.meaning.specs.Check.{checks, verdictOf}
 use Rattle.meaning.specs.Machine.{start, trace}
 use Rattle.meaning.specs.declared.Refusal.{Refusal}
@@ -42,7 +42,7 @@ heldTables a frame states moves presets timerPairs outputPairs = record {
   inputs = low32 (getD frame 1 0);
   outputs = low32 (getD frame 2 0);
   states = narrowed 0 514 low16 (2 * rowsOf (a .states)) states;
-  moves = narrowed (pos 0) 5643 signedOf (11 * rowsOf (a .moves)) moves;
+  moves = narrowed (pos 0) 5643 signedOf (moveRow * rowsOf (a .moves)) moves;
   presets = narrowed 0 33 low32 (rowsOf (a .presets)) presets;
   timerPairs = narrowed 0 4098 low16 (2 * rowsOf (a .«timer_pairs»)) timerPairs;
   outputPairs = narrowed 0 4098 low16 (2 * rowsOf (a .«output_pairs»)) outputPairs;

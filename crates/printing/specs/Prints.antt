@@ -195,11 +195,11 @@ pairs-front bs left a s rows =
     let lf : length left ≡ 4098 = ap length (r .stores (rowsOf a) rows) ∙ (length-sets (s .buffer) 0 (map stored (numbers bs)) ∙ s .long) in
     narrowed-front 0 4098 low16 (2 * rowsOf a) left lf ∙ rw (file-front (unsigned 16) 2 bs (s .buffer) left a (rowsOf a) 4098 r rows (s .long), z .0) (map-take low16 4098 (naturals bs) ∙ ap (take 4098) (low16-same (naturals bs) (z .1)))
 
-moves-front : (bs left : List ℕ) (a : Answer) → Stored 5643 (fresh 32767 32768 10 0 top) bs a left → a ≡ A.Rows (rowsOf a) → narrowed (pos 0) 5643 signedOf (11 * rowsOf a) left ≡ take 5643 (numbers bs)
+moves-front : (bs left : List ℕ) (a : Answer) → Stored 5643 (fresh 32767 32768 10 0 top) bs a left → a ≡ A.Rows (rowsOf a) → narrowed (pos 0) 5643 signedOf (moveRow * rowsOf a) left ≡ take 5643 (numbers bs)
 moves-front bs left a s rows =
     let r = read-moves bs (s .countable) (s .buffer) a left (calls-whole (s .calls)) in
     let lf : length left ≡ 5643 = ap length (r .stores (rowsOf a) rows) ∙ (length-sets (s .buffer) 0 (map stored (numbers bs)) ∙ s .long) in
-    narrowed-front (pos 0) 5643 signedOf (11 * rowsOf a) left lf ∙ rw (file-front signed16 11 bs (s .buffer) left a (rowsOf a) 5643 r rows (s .long)) (map-take signedOf 5643 (map stored (numbers bs)) ∙ ap (take 5643) (moves-are bs (r .typed (rowsOf a) rows)))
+    narrowed-front (pos 0) 5643 signedOf (moveRow * rowsOf a) left lf ∙ rw (file-front signed16 moveRow bs (s .buffer) left a (rowsOf a) 5643 r rows (s .long)) (map-take signedOf 5643 (map stored (numbers bs)) ∙ ap (take 5643) (moves-are bs (r .typed (rowsOf a) rows)))
 
 presets-front : (bs left : List ℕ) (a : Answer) → Stored 33 (fresh 4294967295 0 0 0 top) bs a left → a ≡ A.Rows (rowsOf a) → narrowed 0 33 low32 (rowsOf a) left ≡ take 33 (naturals bs)
 presets-front bs left a s rows =

@@ -1,5 +1,6 @@
 // The four sections of a chart's text: document 01, "The written text", 1 to 4.
 use bodies::Cursor;
+use tables::Chart;
 ghost use mathlib.Core.Path.{_≡_};
 ghost use mathlib.Core.List.{flatMap};
 ghost use Prim.Native.Nat.{_+_, _<_};
@@ -84,7 +85,7 @@ pub fn put_moves(
 {
     let mut p = at;
     let mut i = 0;
-    while i < moves.len() / 11 {
+    while i < moves.len() / Chart::MOVE_ROW {
         p = rungs::put_move(out, p, states, first, width, code, total, moves, i);
         i += 1;
     }

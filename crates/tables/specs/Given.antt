@@ -4,7 +4,7 @@ use mathlib.Core.List.{List}
 use Prim.Native.Nat.{ℕ, _/_}
 use lib.ListN.{length}
 use lib.IntN.{ℤ}
-use Rattle.meaning.specs.Tables.{Tables, stateCount, moveCount}
+use Rattle.meaning.specs.Tables.{Tables, moveRow, stateCount, moveCount}
 use Rattle.tables.specs.declared.Chart.{Chart}
 
 -- the tables of a chart, as they are lent
@@ -32,6 +32,6 @@ pub state-count : (c : Tables) (l : List ℕ) → c .states ≡ l → stateCount
 unfolding stateCount
 state-count c l e = ap (λ x. length x / 2) e
 
-pub move-count : (c : Tables) (l : List ℤ) → c .moves ≡ l → moveCount c ≡ length l / 11
+pub move-count : (c : Tables) (l : List ℤ) → c .moves ≡ l → moveCount c ≡ length l / moveRow
 unfolding moveCount
-move-count c l e = ap (λ x. length x / 11) e
+move-count c l e = ap (λ x. length x / moveRow) e

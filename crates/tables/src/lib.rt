@@ -37,6 +37,9 @@ impl Chart {
 
     pub const PRESET: u32 = 86400000;
 
+    // A row of the moves: "eleven signed 16-bit numbers each".
+    pub const MOVE_ROW: usize = 11;
+
     // The cleared state: "All zero is the start." A chart's state has a code for each super-state and a value for each
     // timer, so 256 and 32 numbers are enough for any; the caller lends the front, as long as the chart's state is.
     pub fn cleared() -> [u32; 288]
@@ -98,10 +101,10 @@ pub fn pair_state(pairs: &[u16], i: usize) -> usize
 pub fn cell(moves: &[i16], i: usize, j: usize) -> i16
     ensures { λ r. ⌜ ((c : Tables) → c .moves ≡ now (moves .entry) → r ≡ cell c i j) ⌝ }
 {
-    if moves.len() / 11 < i {
+    if moves.len() / Chart::MOVE_ROW < i {
         return 0;
     }
-    let from = 11 * i;
+    let from = Chart::MOVE_ROW * i;
     if moves.len() - from <= j {
         return 0;
     }

@@ -2,7 +2,7 @@ use Rattle.chart.specs.Verdicts.{idleCheck, fails-at, all-pass, Worded}
 use Rattle.idle.specs.Leaves.{Below, Sources}
 use Rattle.tables.specs.Given.{move-count}
 use Rattle.meaning.specs.Check.{idlePasses}
-use Rattle.meaning.specs.Tables.{Tables}
+use Rattle.meaning.specs.Tables.{Tables, moveRow}
 use lib.ListN.{length}
 use borrow.Author.Tests.{not-true, not-false}
 use borrow.Author.Count.{below-none, below-more}
@@ -15,10 +15,10 @@ use Rattle.chart.proofs.judge_idle.Tie as tie
 
 abbrev Inv-loop : tie.InvT-loop
 Inv-loop moves asks below i₀ i =
-    (i ≤ length moves / 11) × ((c : Tables) → c .moves ≡ moves → Below c below → Sources c → Worded c asks → (m : ℕ) → m < i → idlePasses c m ≡ true)
+    (i ≤ length moves / moveRow) × ((c : Tables) → c .moves ≡ moves → Below c below → Sources c → Worded c asks → (m : ℕ) → m < i → idlePasses c m ≡ true)
 
 abbrev μ-loop : tie.MeasureT-loop
-μ-loop moves asks below i₀ i = length moves / 11 - i
+μ-loop moves asks below i₀ i = length moves / moveRow - i
 
 loop-holds : tie.Need-loop-holds Inv-loop μ-loop
 loop-holds c = (omega arith, λ c' e r o w. below-none (λ m. idlePasses c' m ≡ true))

@@ -2,7 +2,7 @@ use Rattle.chart.specs.Verdicts.{overlapCheck, fails-at, all-pass, Worde
 use Rattle.tree.specs.Falling.{Falling}
 use Rattle.tables.specs.Given.{move-count}
 use Rattle.meaning.specs.Check.{overlapPasses}
-use Rattle.meaning.specs.Tables.{Tables}
+use Rattle.meaning.specs.Tables.{Tables, moveRow}
 use lib.ListN.{length}
 use borrow.Author.Tests.{not-true, not-false}
 use borrow.Author.Count.{below-none, below-more}
@@ -15,10 +15,10 @@ use Rattle.chart.proofs.judge_overlap.Tie as tie
 
 abbrev Inv-loop : tie.InvT-loop
 Inv-loop states moves asks i₀ i =
-    (i ≤ length moves / 11) × ((c : Tables) → c .states ≡ states → c .moves ≡ moves → Falling c → Worded c asks → (m : ℕ) → m < i → overlapPasses c m ≡ true)
+    (i ≤ length moves / moveRow) × ((c : Tables) → c .states ≡ states → c .moves ≡ moves → Falling c → Worded c asks → (m : ℕ) → m < i → overlapPasses c m ≡ true)
 
 abbrev μ-loop : tie.MeasureT-loop
-μ-loop states moves asks i₀ i = length moves / 11 - i
+μ-loop states moves asks i₀ i = length moves / moveRow - i
 
 loop-holds : tie.Need-loop-holds Inv-loop μ-loop
 loop-holds c = (omega arith, λ c' e r o w. below-none (λ m. overlapPasses c' m ≡ true))

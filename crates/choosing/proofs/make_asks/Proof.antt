@@ -3,7 +3,7 @@ use mathlib.Core.Path.{_≡_, refl, _∙_}
 use Prim.Native.Nat.{_≤_, _<_, _*_, _+_, _-_, _/_}
 use native.Mathlib.Numerals.{add-one}
 use lib.ListN.{length, getD}
-use Rattle.meaning.specs.Tables.{Tables, moveCount}
+use Rattle.meaning.specs.Tables.{Tables, moveRow, moveCount}
 use Rattle.meaning.specs.Rules.{Rules}
 use Rattle.meaning.specs.RuleLaws.{literal-tells}
 use Rattle.tables.specs.Given.{move-count}
@@ -14,11 +14,11 @@ use Rattle.choosing.proofs.make_asks.Statement.{statement}
 use Rattle.choosing.proofs.make_asks.Tie as tie
 
 abbrev Inv-loop : tie.InvT-loop
-Inv-loop moves asks₀ i₀ asks i = (i ≤ length moves / 11) × (length asks ≡ length asks₀)
+Inv-loop moves asks₀ i₀ asks i = (i ≤ length moves / moveRow) × (length asks ≡ length asks₀)
     × ((c : Tables) → c .moves ≡ moves → Rules c → moveCount c ≤ length asks₀ / 4 → WordsTo c i asks)
 
 abbrev μ-loop : tie.MeasureT-loop
-μ-loop moves asks₀ i₀ asks i = length moves / 11 - i
+μ-loop moves asks₀ i₀ asks i = length moves / moveRow - i
 
 loop-holds : tie.Need-loop-holds Inv-loop μ-loop
 loop-holds c = (omega arith, refl, λ c' e R long i h. absurd (omega arith))

@@ -3,7 +3,7 @@ use mathlib.Core.Path.{_≡_, refl, _∙_}
 use Prim.Native.Nat.{ℕ, _≤_, _-_, _/_}
 use lib.ListN.{length, getD}
 use native.Mathlib.Numerals.{add-one}
-use Rattle.meaning.specs.Tables.{Tables, moveCount}
+use Rattle.meaning.specs.Tables.{Tables, moveRow, moveCount}
 use Rattle.meaning.specs.Rules.{Rules}
 use Rattle.tables.specs.Given.{move-count}
 use Rattle.choosing.specs.Choice.{lastFrom, LinkedTo}
@@ -12,11 +12,11 @@ use Rattle.choosing.proofs.make_links.Statement.{statement}
 use Rattle.choosing.proofs.make_links.Tie as tie
 
 abbrev Inv-loop : tie.InvT-loop
-Inv-loop moves links₀ i₀ links i = (i ≤ length moves / 11) × (length links ≡ length links₀)
+Inv-loop moves links₀ i₀ links i = (i ≤ length moves / moveRow) × (length links ≡ length links₀)
     × ((c : Tables) → c .moves ≡ moves → Rules c → 768 ≤ length links₀ → ((s : ℕ) → getD links₀ s 0 ≡ 0) → LinkedTo c i links)
 
 abbrev μ-loop : tie.MeasureT-loop
-μ-loop moves links₀ i₀ links i = length moves / 11 - i
+μ-loop moves links₀ i₀ links i = length moves / moveRow - i
 
 loop-holds : tie.Need-loop-holds Inv-loop μ-loop
 unfolding lastFrom

@@ -1,5 +1,6 @@
 use borrow.Author.Tests.{eq-eqb, ne-eqb}
 use lib.ListN.{length}
+use Rattle.meaning.specs.Tables.{moveRow}
 use Prim.Native.Nat.{_%_}
 use Rattle.counts.proofs.rows_whole.Statement.{statement}
 use Rattle.counts.proofs.rows_whole.Tie as tie
@@ -10,14 +11,14 @@ returns c = rw (ne-eqb (length (c .before .args .states .now) % 2) 0 (c .if1 .ta
 returns-2 : tie.Need-returns-2
 returns-2 c =
     let a = c .before .before .args in
-    rw (eq-eqb (length (a .states .now) % 2) 0 (c .before .if1 .left), ne-eqb (length (a .moves .now) % 11) 0 (c .if2 .taken))
+    rw (eq-eqb (length (a .states .now) % 2) 0 (c .before .if1 .left), ne-eqb (length (a .moves .now) % moveRow) 0 (c .if2 .taken))
 
 returns-3 : tie.Need-returns-3
 returns-3 c =
     let a = c .before .before .before .args in
     rw (
       eq-eqb (length (a .states .now) % 2) 0 (c .before .before .if1 .left),
-      eq-eqb (length (a .moves .now) % 11) 0 (c .before .if2 .left),
+      eq-eqb (length (a .moves .now) % moveRow) 0 (c .before .if2 .left),
       ne-eqb (length (a .timer-pairs .now) % 2) 0 (c .if3 .taken),
     )
 
@@ -26,7 +27,7 @@ returns-4 c =
     let a = c .before .before .before .args in
     rw (
       eq-eqb (length (a .states .now) % 2) 0 (c .before .before .if1 .left),
-      eq-eqb (length (a .moves .now) % 11) 0 (c .before .if2 .left),
+      eq-eqb (length (a .moves .now) % moveRow) 0 (c .before .if2 .left),
       eq-eqb (length (a .timer-pairs .now) % 2) 0 (c .if3 .left),
     )
 

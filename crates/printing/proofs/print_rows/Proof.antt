@@ -4,6 +4,7 @@ use native.Mathlib.Omega.{arith}
 use lib.ListN.{take, length-take}
 use lib.Seq.{length-take-le}
 use lib.IntN.{pos}
+use Rattle.meaning.specs.Tables.{moveRow}
 use Rattle.ended.specs.Decimals.{signedOf}
 use Rattle.columns.specs.Low.{low16, low32}
 use Rattle.files.specs.Told.{rowsOf}
@@ -110,7 +111,7 @@ returns : tie.Need-returns
 returns c = λ a h frame e.
     let s = c .before .before .before .before .before .before .before .before .before .before .before .before .before .before .before .before .before .before .before .before .before .before .before .before .before .before .before .before .before .before .before .before .before .before .before .before .before .before .args in
     let ns = c .before .before .before .before .before .before .before .before .before .before .before .before .before .before .before .ones .ensures ∙ ap (λ (k : ℕ). min k 514) (h .states) ∙ least-twice (2 * rowsOf (a .states)) 514 in
-    let nm = c .before .before .before .before .before .before .before .before .before .before .before .before .before .before .ones2 .ensures ∙ ap (λ (k : ℕ). min k 5643) (h .moves) ∙ least-twice (11 * rowsOf (a .moves)) 5643 in
+    let nm = c .before .before .before .before .before .before .before .before .before .before .before .before .before .before .ones2 .ensures ∙ ap (λ (k : ℕ). min k 5643) (h .moves) ∙ least-twice (moveRow * rowsOf (a .moves)) 5643 in
     let nd = c .before .before .before .before .before .before .before .before .before .before .before .before .before .ones3 .ensures ∙ ap (λ (k : ℕ). min k 33) (h .presets) ∙ least-twice (rowsOf (a .presets)) 33 in
     let nt = c .before .before .before .before .before .before .before .before .before .before .before .before .ones4 .ensures ∙ ap (λ (k : ℕ). min k 4098) (h .timerPairs) ∙ least-twice (2 * rowsOf (a .«timer_pairs»)) 4098 in
     let no = c .before .before .before .before .before .before .before .before .before .before .before .ones5 .ensures ∙ ap (λ (k : ℕ). min k 4098) (h .outputPairs) ∙ least-twice (2 * rowsOf (a .«output_pairs»)) 4098 in
@@ -121,7 +122,7 @@ returns c = λ a h frame e.
       inputs = e i .inputs;
       outputs = e i .outputs;
       states = narrowed-is 0 514 low16 (2 * rowsOf (a .states)) (s .states .now) _ _ (c .before .before .before .before .before .before .before .before .before .before .before .before .before .before .before .before .before .before .before .before .before .before .before .before .before .before .before .before .before .before .before .before .before .narrow-16 .ensures) ns i;
-      moves = narrowed-is (pos 0) 5643 signedOf (11 * rowsOf (a .moves)) (s .moves .now) _ _ (c .before .before .before .before .before .before .before .before .before .before .before .before .before .before .before .before .before .before .before .before .before .before .before .before .before .before .before .before .before .narrow-signed .ensures) nm i;
+      moves = narrowed-is (pos 0) 5643 signedOf (moveRow * rowsOf (a .moves)) (s .moves .now) _ _ (c .before .before .before .before .before .before .before .before .before .before .before .before .before .before .before .before .before .before .before .before .before .before .before .before .before .before .before .before .before .narrow-signed .ensures) nm i;
       presets = narrowed-is 0 33 low32 (rowsOf (a .presets)) (s .presets .now) _ _ (c .before .before .before .before .before .before .before .before .before .before .before .before .before .before .before .before .before .before .before .before .before .before .before .before .before .narrow-32 .ensures) nd i;
       timerPairs = narrowed-is 0 4098 low16 (2 * rowsOf (a .«timer_pairs»)) (s .timer-pairs .now) _ _ (c .before .before .before .before .before .before .before .before .before .before .before .before .before .before .before .before .before .before .before .before .before .narrow-162 .ensures) nt i;
       outputPairs = narrowed-is 0 4098 low16 (2 * rowsOf (a .«output_pairs»)) (s .output-pairs .now) _ _ (c .before .before .before .before .before .before .before .before .before .before .before .before .before .before .before .before .before .narrow-163 .ensures) no i;

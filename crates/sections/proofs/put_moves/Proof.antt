@@ -8,7 +8,7 @@ use Rattle.meaning.specs.Rows.{table}
 use Rattle.lines.specs.Fit.{Fit}
 use Rattle.bits.specs.Sent.{lines, laid, Drawn}
 use Rattle.bits.specs.SentLaws.{put-lines, put-nil}
-use Rattle.meaning.specs.Tables.{Tables, moveCount}
+use Rattle.meaning.specs.Tables.{Tables, moveRow, moveCount}
 use Rattle.meaning.specs.Programs.{rungOf}
 use Rattle.meaning.specs.Written.{moveRungs}
 use Rattle.tables.specs.Given.{move-count}
@@ -19,10 +19,10 @@ use Rattle.sections.proofs.put_moves.Tie as tie
 
 abbrev Inv-loop : tie.InvT-loop
 Inv-loop out₀ at states first width code total moves p₀ i₀ out p i =
-    (i ≤ length moves / 11) × (length out ≡ length out₀) × ((c : Tables) → Drawn c states (laid first width code total) → c .moves ≡ moves → Fit out₀ at (lines (movesTo c i)) out p)
+    (i ≤ length moves / moveRow) × (length out ≡ length out₀) × ((c : Tables) → Drawn c states (laid first width code total) → c .moves ≡ moves → Fit out₀ at (lines (movesTo c i)) out p)
 
 abbrev μ-loop : tie.MeasureT-loop
-μ-loop out₀ at states first width code total moves p₀ i₀ out p i = length moves / 11 - i
+μ-loop out₀ at states first width code total moves p₀ i₀ out p i = length moves / moveRow - i
 
 loop-holds : tie.Need-loop-holds Inv-loop μ-loop
 unfolding movesTo flatMap table
