@@ -2,3 +2,4 @@ pub mod Choice
 pub mod HoldLaws
 pub mod LinkLaws
 pub mod Once
+pub mod WidestLaws

@@ -1,5 +1,4 @@
 // The enabled move: the literals as words and the moves by their source, and which of them holds.
-use asks::Asks;
 use tables::Chart;
 ghost use mathlib.Core.Path.{_≡_};
 ghost use Prim.Native.Nat.{ℕ, suc, _<_, _≤_, _+_, _/_};
@@ -8,37 +7,16 @@ ghost use Rattle.meaning.specs.Tables.{Tables, moveCount, source};
 ghost use Rattle.meaning.specs.Rules.{Rules};
 ghost use Rattle.meaning.specs.Machine.{chosen};
 ghost use Rattle.choosing.specs.Choice.{read, holdingAt, AskedTo, lastHolding, LinkedTo};
-ghost use Rattle.asks.specs.Words.{Asked};
 
 // ---- once for all scans
 
-fn asks_of(moves: &[i16], i: usize) -> Asks
-    ensures { λ r. ⌜ ((c : Tables) → c .moves ≡ now (moves .entry) → Rules c → i < moveCount c → Asked c i 8 r) ⌝ }
-{
-    let mut a = Asks {
-        on: 0,
-        off: 0,
-        expired: 0,
-        unexpired: 0,
-        ended: false,
-        passes: true,
-    };
-    let mut k = 0;
-    while k < 8 {
-        let v = tables::literal(moves, i, k);
-        a = asks::ask(a, tables::wanted(v), tables::kind(v));
-        k += 1;
-    }
-    a
-}
-
-// Four words a move.
+// Four words a move: the moves of an accepted chart pass too with as many inputs and timers as there may be.
 pub fn make_asks(moves: &[i16], asks: &mut [u64])
     ensures { λ _. ⌜ ((c : Tables) → c .moves ≡ now (moves .entry) → Rules c → moveCount c ≤ length (now (asks .entry)) / 4 → AskedTo c (moveCount c) (now (asks .exit))) ⌝ }
 {
     let mut i = 0;
     while i < moves.len() / Chart::MOVE_ROW {
-        asks::put_words(asks, i, asks_of(moves, i));
+        literals::literal_passes(Chart::INPUTS, Chart::TIMERS, moves, i, asks);
         i += 1;
     }
 }

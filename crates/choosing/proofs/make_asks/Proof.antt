@@ -5,17 +5,18 @@ use native.Mathlib.Numerals.{add-one}
 use lib.ListN.{length, getD}
 use Rattle.meaning.specs.Tables.{Tables, moveRow, moveCount}
 use Rattle.meaning.specs.Rules.{Rules}
-use Rattle.meaning.specs.RuleLaws.{literal-tells}
 use Rattle.tables.specs.Given.{move-count}
 use Rattle.asks.specs.Words.{WordsTo}
-use Rattle.asks.specs.WordsLaws.{words-more, known}
+use Rattle.asks.specs.WordsLaws.{known}
+use Rattle.choosing.specs.Choice.{read}
 use Rattle.choosing.specs.HoldLaws.{words-hold}
+use Rattle.choosing.specs.WidestLaws.{widest, widest-timers, widest-passes, widest-holds}
 use Rattle.choosing.proofs.make_asks.Statement.{statement}
 use Rattle.choosing.proofs.make_asks.Tie as tie
 
 abbrev Inv-loop : tie.InvT-loop
 Inv-loop moves asks₀ i₀ asks i = (i ≤ length moves / moveRow) × (length asks ≡ length asks₀)
-    × ((c : Tables) → c .moves ≡ moves → Rules c → moveCount c ≤ length asks₀ / 4 → WordsTo c i asks)
+    × ((c : Tables) → c .moves ≡ moves → Rules c → moveCount c ≤ length asks₀ / 4 → WordsTo (widest c) i asks)
 
 abbrev μ-loop : tie.MeasureT-loop
 μ-loop moves asks₀ i₀ asks i = length moves / moveRow - i
@@ -23,11 +24,8 @@ abbrev μ-loop : tie.MeasureT-loop
 loop-holds : tie.Need-loop-holds Inv-loop μ-loop
 loop-holds c = (omega arith, refl, λ c' e R long i h. absurd (omega arith))
 
-asks-of-requires : tie.Need-asks-of-requires Inv-loop μ-loop
-asks-of-requires c κs = tt
-
-put-words-requires : tie.Need-put-words-requires Inv-loop μ-loop
-put-words-requires c κs = tt
+literal-passes-requires : tie.Need-literal-passes-requires Inv-loop μ-loop
+literal-passes-requires c κs = tt
 
 add-i : tie.Need-add-i Inv-loop μ-loop
 add-i c = omega arith
@@ -37,16 +35,16 @@ loop-less c = omega arith
 
 loop-again : tie.Need-loop-again Inv-loop μ-loop
 loop-again c =
-    let b = c .before .before .before .before .before .before .loop in
-    let w = c .before .before .before .asks-of in
-    let a = w .result in (
+    let b = c .before .before .before .before .before .loop in
+    let w = c .before .before .literal-passes in (
       omega arith,
-      c .before .before .put-words .kept .0 ∙ b .inv .1,
+      w .ensures .0 ∙ b .inv .1,
       λ c' e R long.
           let n = move-count c' _ e in
-          let m : b .i < moveCount c' = omega (arith, n, c .before .before .before .before .before .loop-test .taken) in
+          let m : b .i < moveCount c' = omega (arith, n, c .before .before .before .before .loop-test .taken) in
           let g : b .i < length (b .asks) / 4 = omega (arith, b .inv .1, m, long) in
-          rw (add-one, c .before .before .put-words .ensures g) (words-more c' (b .asks) (b .i) (a .on) (a .off) (a .expired) (a .unexpired) g (w .ensures c' e R m .words) (b .inv .2 c' e R long)),
+          let t = w .ensures .1 (widest c') refl (widest-timers c') e in
+          rw add-one (t .1 (t .0 ∙ widest-passes c' R (b .i) m) g (b .inv .2 c' e R long)),
     )
 
 same-length : tie.Need-same-length Inv-loop μ-loop
@@ -56,8 +54,9 @@ returns : tie.Need-returns Inv-loop μ-loop
 returns c c' e R long i x y h p q =
     let b = c .before .loop in
     let l = b .asks in
-    words-hold c' i (known c' i (literal-tells c' i .1 (R .literals i h))) x y p q (getD l (4 * i) 0) (getD l (4 * i + 1) 0) (getD l (4 * i + 2) 0) (getD l (4 * i + 3) 0)
+    words-hold (widest c') i (known (widest c') i (widest-passes c' R i h)) x y p q (getD l (4 * i) 0) (getD l (4 * i + 1) 0) (getD l (4 * i + 2) 0) (getD l (4 * i + 3) 0)
     (b .inv .2 c' e R long i (omega (arith, move-count c' _ e)))
+    ∙ widest-holds c' (read x y) i
 
 pub make-asks-spec : {M : Type 1} → statement M
 make-asks-spec =
@@ -66,8 +65,7 @@ make-asks-spec =
     Inv-loop
     μ-loop
     loop-holds
-    asks-of-requires
-    put-words-requires
+    literal-passes-requires
     add-i
     loop-less
     loop-again
