@@ -1,13 +1,12 @@
 // What the literals of a move ask for, as words.
 use meaning::Kind;
 ghost use mathlib.Core.Path.{_≡_};
-ghost use mathlib.Core.Bool.{true, _||_};
-ghost use Prim.Native.Nat.{ℕ, _+_, _<_, _≤_, _/_};
+ghost use mathlib.Core.Bool.{true};
+ghost use Prim.Native.Nat.{_+_, _<_, _≤_, _/_};
 ghost use lib.ListN.{length};
 ghost use lib.IntN.{ℤ, natAbs};
-ghost use lib.Dec.{eqb};
 ghost use Rattle.meaning.specs.Tables.{Tables};
-ghost use Rattle.meaning.specs.Literals.{kindOf, wanted, inputOn};
+ghost use Rattle.meaning.specs.Literals.{kindOf, wanted};
 ghost use Rattle.meaning.specs.Check.{withinCounts};
 ghost use Rattle.asks.specs.Words.{four, Adds};
 
@@ -20,19 +19,6 @@ pub struct Asks {
     pub unexpired: u64,
     pub ended: bool,
     pub passes: bool,
-}
-
-// The word with number n too; a number that no word has a bit for is passed over.
-fn with(w: u64, n: u16) -> u64
-    ensures { λ r. ⌜ (1 ≤ n → n ≤ 64 → (m : ℕ) → 1 ≤ m → inputOn r m ≡ (inputOn w m || eqb n m)) ⌝ }
-{
-    if n < 1 {
-        return w;
-    }
-    if 64 < n {
-        return w;
-    }
-    w | 1u64 << n - 1
 }
 
 fn end(a: Asks) -> Asks
@@ -48,10 +34,10 @@ fn ask_input(a: Asks, want: bool, n: u16) -> Asks
 {
     let mut r = a;
     if want {
-        r.on = with(a.on, n);
+        r.on = slices::with_number(a.on, n as usize);
         return r;
     }
-    r.off = with(a.off, n);
+    r.off = slices::with_number(a.off, n as usize);
     r
 }
 
@@ -60,10 +46,10 @@ fn ask_timer(a: Asks, want: bool, n: u16) -> Asks
 {
     let mut r = a;
     if want {
-        r.expired = with(a.expired, n);
+        r.expired = slices::with_number(a.expired, n as usize);
         return r;
     }
-    r.unexpired = with(a.unexpired, n);
+    r.unexpired = slices::with_number(a.unexpired, n as usize);
     r
 }
 

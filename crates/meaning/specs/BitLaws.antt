@@ -83,7 +83,8 @@ and-bit a b n =
     ap (λ w. eqb (w % 2) 1) (and-shr a b (n - 1) ∙ and-step (a / 2 ^ (n - 1)) (b / 2 ^ (n - 1)))
     ∙ and-digit (bitAnd (a / 2 ^ (n - 1) / 2) (b / 2 ^ (n - 1) / 2)) (a / 2 ^ (n - 1) % 2) (b / 2 ^ (n - 1) % 2) (omega arith) (omega arith)
 
-eqb-suc : (k n : ℕ) → eqb k n ≡ eqb (suc k) (suc n)
+-- numbers that count from 0, and the same from 1
+pub eqb-suc : (k n : ℕ) → eqb k n ≡ eqb (suc k) (suc n)
 eqb-suc k n = elim (ℕ-discrete k n) [
   | yes e ↦ eq-eqb k n e ∙ sym (eq-eqb (suc k) (suc n) (ap suc e))
   | no d ↦ ne-eqb k n d ∙ sym (ne-eqb (suc k) (suc n) (λ e. d (omega arith)))
@@ -113,9 +114,9 @@ pub weight : (k : ℕ) → k < 64 → 1 * 2 ^ k % 18446744073709551616 ≡ 2 ^ k
 weight k h = rw (one-mul (2 ^ k)) (mod-eq-of-lt (pow-lt h))
 
 -- a word with number n too
-pub with-number : (w n m : ℕ) → 1 ≤ n → n ≤ 64 → 1 ≤ m → inputOn (bitOr w (1 * 2 ^ (n - 1) % 18446744073709551616)) m ≡ (inputOn w m || eqb n m)
-with-number w n m h k g =
+pub number-bit : (w n m : ℕ) → 1 ≤ n → 1 ≤ m → inputOn (bitOr w (2 ^ (n - 1))) m ≡ (inputOn w m || eqb n m)
+number-bit w n m h g =
     let p : n ≡ suc (n - 1) = omega arith in
     let q : m ≡ suc (m - 1) = omega arith in
-    or-bit w (1 * 2 ^ (n - 1) % 18446744073709551616) m
-    ∙ ap (λ b. inputOn w m || b) (ap (λ v. inputOn v m) (weight (n - 1) (omega arith)) ∙ ap (inputOn (2 ^ (n - 1))) q ∙ one-bit (n - 1) (m - 1) ∙ eqb-suc (n - 1) (m - 1) ∙ ap₂ eqb (sym p) (sym q))
+    or-bit w (2 ^ (n - 1)) m
+    ∙ ap (λ b. inputOn w m || b) (ap (inputOn (2 ^ (n - 1))) q ∙ one-bit (n - 1) (m - 1) ∙ eqb-suc (n - 1) (m - 1) ∙ ap₂ eqb (sym p) (sym q))

@@ -4,19 +4,10 @@ ghost use mathlib.Core.Path.{_≡_};
 ghost use mathlib.Core.Bool.{_||_};
 ghost use Prim.Native.Nat.{ℕ, _<_, _≤_};
 ghost use lib.ListN.{length, getD, set};
-ghost use lib.Dec.{eqb};
 ghost use lib.Bits.{bitOr};
 ghost use Rattle.meaning.specs.Tables.{Tables, stateCount, superState};
 ghost use Rattle.meaning.specs.Literals.{inputOn};
 ghost use Rattle.pairing.specs.Words.{Tree, rowAt, Own, Clear, Worded};
-
-// The word with number n beside its own.
-fn with(w: u64, n: usize) -> u64
-    requires { ⌜ (1 ≤ n) × (n ≤ 64) ⌝ }
-    ensures { λ r. ⌜ ((m : ℕ) → 1 ≤ m → inputOn r m ≡ (inputOn w m || eqb n m)) ⌝ }
-{
-    w | 1u64 << n - 1
-}
 
 // One pair: numbers and states that no word or place holds are passed over.
 fn add_row(pairs: &[u16], i: usize, words: &mut [u64])
@@ -33,7 +24,7 @@ fn add_row(pairs: &[u16], i: usize, words: &mut [u64])
     if words.len() <= a {
         return;
     }
-    words[a] = with(words[a], n);
+    words[a] = slices::with_number(words[a], n);
 }
 
 // The numbers paired with each state itself, in words that have none yet.

@@ -1,17 +1,18 @@
 -- A word with one bit more, and the word of the outputs that are on.
-use mathlib.Core.Path.{_≡_, sym, ap, _∙_}
+use mathlib.Core.Path.{_≡_, refl, sym, ap, _∙_}
 use mathlib.Core.Logic.{inl, inr}
 use Prim.Native.Nat.{ℕ, zero, suc, _+_, _/_, _%_, _^_, _≤_, _<_}
 use native.Mathlib.Omega.{arith}
 use native.Mathlib.Decide.{decLe}
 use native.Mathlib.Nat.{pow-succ'}
+use native.Mathlib.Numerals.{add-one}
 use mathlib.Core.Bool.{Bool, true, false, cond, _&&_, _||_, and-true, and-false, or-false}
 use lib.ListN.{getD, List·getD-eq-default}
 use lib.Dec.{eqb}
-use lib.Bits.{bitOr, bitAnd}
+use lib.Bits.{bitAnd}
 use borrow.Author.Tests.{ne-eqb}
 use Rattle.meaning.specs.Literals.{inputOn}
-use Rattle.meaning.specs.BitLaws.{even, low-bit, half-bit, or-bit, one-bit}
+use Rattle.meaning.specs.BitLaws.{even, low-bit, half-bit, eqb-suc}
 use Rattle.meaning.specs.Machine.{wordOf}
 use Rattle.meaning.specs.Rows.{table}
 use Rattle.meaning.specs.RowsLaws.{some-none, length-table, getD-table}
@@ -19,15 +20,13 @@ use Rattle.meaning.specs.Tables.{Tables, pairCount, pairNumber, pairState}
 use Rattle.meaning.specs.Hierarchy.{atOrAbove, paired, outputOn}
 use Rattle.meaning.specs.Rules.{Rules}
 use Rattle.meaning.specs.OutputLaws.{word-table}
+use Rattle.slices.specs.Numbers.{withNumber}
+use Rattle.slices.specs.NumbersLaws.{numbered}
 
--- a word with one bit more
-pub with-bit : (w k n : ℕ) → inputOn (bitOr w (2 ^ k)) (suc n) ≡ (inputOn w (suc n) || eqb k n)
-with-bit w k n = or-bit w (2 ^ k) (suc n) ∙ ap (λ b. inputOn w (suc n) || b) (one-bit k n)
-
--- the same if b, else as it was
-pub with-bit-if : (w k n : ℕ) (b : Bool) → inputOn (cond b (bitOr w (2 ^ k)) w) (suc n) ≡ (inputOn w (suc n) || (eqb k n && b))
-with-bit-if w k n true = rw (and-true (eqb k n)) (with-bit w k n)
-with-bit-if w k n false = rw (and-false (eqb k n)) (sym (or-false (inputOn w (suc n))))
+-- a word with number k + 1 too if b, else as it was
+pub with-bit-if : (w k n : ℕ) (b : Bool) → k < 64 → inputOn (cond b (withNumber w (k + 1)) w) (suc n) ≡ (inputOn w (suc n) || (eqb k n && b))
+with-bit-if w k n true h = rw (and-true (eqb k n), add-one) (numbered (withNumber w (suc k)) w (suc k) (suc n) refl (omega arith) (omega arith) (omega arith) ∙ ap (λ b. inputOn w (suc n) || b) (sym (eqb-suc k n)))
+with-bit-if w k n false h = rw (and-false (eqb k n)) (sym (or-false (inputOn w (suc n))))
 
 -- a word is what its bits make
 pub word-is : (f : ℕ → Bool) (i n w : ℕ) → w < 2 ^ n → ((k : ℕ) → k < n → inputOn w (suc k) ≡ f (i + k)) → w ≡ wordOf (table f i n)

@@ -3,11 +3,10 @@ use tables::Chart;
 ghost use mathlib.Core.Path.{_≡_};
 ghost use mathlib.Core.Bool.{_&&_, _||_};
 ghost use lib.Dec.{eqb};
-ghost use Prim.Native.Nat.{ℕ, suc, _<_, _≤_, _^_};
+ghost use Prim.Native.Nat.{ℕ, suc, _<_, _≤_};
 ghost use lib.ListN.{length};
 ghost use Rattle.meaning.specs.Machine.{remembered};
 ghost use Rattle.meaning.specs.Literals.{inputOn};
-ghost use lib.Bits.{bitOr};
 ghost use Rattle.paths.specs.Walk.{walk};
 ghost use Rattle.paths.specs.Words.{expiredAt};
 
@@ -45,14 +44,6 @@ pub fn bit_at(w: u64, i: usize) -> bool
     (w >> i) % 2 == 1
 }
 
-// The word with number i + 1 in it.
-fn with_bit(w: u64, i: usize) -> u64
-    requires { ⌜ i < 64 ⌝ }
-    ensures { λ r. ⌜ r ≡ bitOr w (2 ^ i) ⌝ }
-{
-    w | (1u64 << i)
-}
-
 // The timer of row i is number i + 1.
 fn is_expired(presets: &[u32], running: u64, timers: &[u32], i: usize) -> bool
     requires { ⌜ i < 32 ⌝ }
@@ -64,12 +55,13 @@ fn is_expired(presets: &[u32], running: u64, timers: &[u32], i: usize) -> bool
     false
 }
 
+// The word with number i + 1 too, if b.
 fn with_bit_if(w: u64, i: usize, b: bool) -> u64
     requires { ⌜ i < 64 ⌝ }
     ensures { λ r. ⌜ ((j : ℕ) → inputOn r (suc j) ≡ (inputOn w (suc j) || (eqb i j && b))) ⌝ }
 {
     if b {
-        return with_bit(w, i);
+        return slices::with_number(w, i + 1);
     }
     w
 }

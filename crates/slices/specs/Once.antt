@@ -5,6 +5,7 @@ use Prim.Native.Nat.{ℕ, min}
 use lib.ListN.{getD, set}
 use lib.IntN.{ℤ}
 use Rattle.meaning.specs.Once.{Once, is-once}
+use Rattle.slices.specs.Numbers.{withNumber}
 
 pub number-once : (l : List ℕ) (i : ℕ) → Once (λ r. r ≡ getD l i 0)
 number-once l i = is-once (getD l i 0)
@@ -29,3 +30,6 @@ put-signed-once l i z = is-once (set l i z)
 
 pub shorter-once : (a b : ℕ) → Once (λ r. r ≡ min a b)
 shorter-once a b = is-once (min a b)
+
+pub with-number-once : (w n : ℕ) → Once (λ r. r ≡ withNumber w n)
+with-number-once w n = is-once (withNumber w n)

@@ -1,7 +1,9 @@
-// What stands at a place of a slice, or 0; a store where the slice has the place; the shorter of two lengths.
+// What stands at a place of a slice, or 0; a store where the slice has the place; the shorter of two lengths; a number
+// put into a word.
 ghost use mathlib.Core.Path.{_≡_};
 ghost use Prim.Native.Nat.{min};
 ghost use lib.ListN.{getD, set};
+ghost use Rattle.slices.specs.Numbers.{withNumber};
 
 // The 16-bit number at place i, 0 past the end.
 pub fn number(numbers: &[u16], i: usize) -> u16
@@ -77,4 +79,17 @@ pub fn shorter(a: usize, b: usize) -> usize
         return b;
     }
     a
+}
+
+// The word with number n too, the bit of weight 2^(n-1); a number that no word has a bit for changes nothing.
+pub fn with_number(w: u64, n: usize) -> u64
+    ensures { λ r. ⌜ r ≡ withNumber w n ⌝ }
+{
+    if n < 1 {
+        return w;
+    }
+    if 64 < n {
+        return w;
+    }
+    w | 1u64 << n - 1
 }

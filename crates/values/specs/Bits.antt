@@ -1,16 +1,20 @@
 -- Words and their bits.
 use mathlib.Core.Path.{_≡_, sym, _∙_}
-use Prim.Native.Nat.{ℕ, zero, suc, _+_, _*_, _/_, _%_, _^_, _≤_, _<_}
-use native.Mathlib.Nat.{pow-succ', div-eq-of-lt}
+use Prim.Native.Nat.{ℕ, zero, suc, _+_, _*_, _/_, _%_, _^_, _-_, _≤_, _<_, max}
+use native.Mathlib.Nat.{pow-succ', div-one, div-eq-of-lt, max-zero}
 use mathlib.Core.Logic.{inl, inr}
 use native.Mathlib.Omega.{arith}
-use mathlib.Core.Bool.{Bool, true, false, cond, true≢false}
+use mathlib.Core.Bool.{Bool, true, false, cond}
 use mathlib.Core.List.{List, [], _∷_}
 use lib.ListN.{length, getD, set}
+use lib.Bits.{bitOr, or-step, or-zero-r}
+use lib.Dec.{eqb}
 use lib.Pow.{pow-pos, shr-shr}
 use borrow.Author.Tests.{eqb-true, eq-eqb, lt-ltb}
 use Rattle.meaning.specs.BitLaws.{even}
 use Rattle.meaning.specs.Machine.{wordOf}
+use Rattle.slices.specs.Numbers.{withNumber}
+use Rattle.slices.specs.NumbersLaws.{number-within}
 use Rattle.values.specs.Value.{bitOn, withBit}
 
 -- bit k + 1 is bit k of the half
@@ -30,17 +34,6 @@ pub bit-low : (k w : ℕ) → bitOn w k ≡ true → 2 ^ k ≤ w
 unfolding bitOn
 bit-low zero w e = let h : w / 1 % 2 ≡ 1 = eqb-true (w / 2 ^ 0 % 2) 1 e in omega arith
 bit-low (suc k) w e = let h = bit-low k (w / 2) (sym (bit-suc w k) ∙ e) in omega (arith, pow-succ' 2 k)
-
--- and one that is off has room
-pub bit-room : (k n w : ℕ) → k < n → w < 2 ^ n → bitOn w k ≡ false → w + 2 ^ k < 2 ^ n
-unfolding bitOn
-bit-room k zero w a h e = absurd (omega arith)
-bit-room zero (suc n) w a h e =
-    let z : (w / 1 % 2 ≡ 1 → ⊥) = λ f. true≢false (sym (eq-eqb (w / 2 ^ 0 % 2) 1 f) ∙ e) in
-    elim (even w) [ inl p ↦ omega (arith, pow-succ' 2 n) | inr p ↦ absurd (z (omega arith)) ]
-bit-room (suc k) (suc n) w a h e =
-    let g = bit-room k n (w / 2) (omega arith) (omega (arith, pow-succ' 2 n)) (sym (bit-suc w k) ∙ e) in
-    omega (arith, pow-succ' 2 n, pow-succ' 2 k)
 
 -- the bits of a word are those that it was made of
 pub word-bit : (bs : List Bool) (k : ℕ) → bitOn (wordOf bs) k ≡ getD bs k false
@@ -72,3 +65,31 @@ unfolding withBit
 word-set bs k v h g =
     let e = set-weighs bs k v h in
     rw (lt-ltb k 64 (omega arith), word-bit bs k) (omega arith)
+
+-- ---- a number put into a word
+
+heavier : (b : Bool) (o p w q : ℕ) → q ≡ 2 * p → o + cond b p 0 ≡ w / 2 + p → (o * 2 + w % 2) + cond b q 0 ≡ w + q
+heavier true o p w q e f = omega arith
+heavier false o p w q e f = omega arith
+
+bit-zero : (w : ℕ) → bitOn w 0 ≡ eqb (w % 2) 1
+unfolding bitOn
+bit-zero w = let e : w / 2 ^ 0 ≡ w = div-one w in rw e
+
+-- a word with a bit that it did not have weighs that bit more
+or-weighs : (k w : ℕ) → bitOr w (2 ^ k) + cond (bitOn w k) (2 ^ k) 0 ≡ w + 2 ^ k
+or-weighs zero w =
+    let s : bitOr w 1 ≡ w / 2 * 2 + max (w % 2) 1 = or-step w 1 ∙ rw (or-zero-r (w / 2)) in
+    elim (even w) [ inl e ↦ rw (s, bit-zero w, e) (omega arith) | inr e ↦ rw (s, bit-zero w, e) (omega arith) ]
+or-weighs (suc k) w =
+    let p = pow-succ' 2 k in
+    let h : 2 ^ suc k / 2 ≡ 2 ^ k = omega (arith, p) in
+    let z : 2 ^ suc k % 2 ≡ 0 = omega (arith, p) in
+    rw (bit-suc w k, or-step w (2 ^ suc k), h, z, max-zero (w % 2)) (heavier (bitOn (w / 2) k) (bitOr (w / 2) (2 ^ k)) (2 ^ k) w (2 ^ suc k) p (or-weighs k (w / 2)))
+
+-- number k + 1 put into a word is its bit k put on
+pub number-on : (w k : ℕ) → k < 64 → withNumber w (k + 1) ≡ withBit w k true
+unfolding withBit
+number-on w k h =
+    let e : k + 1 - 1 ≡ k = omega arith in
+    number-within w (k + 1) (omega arith) (omega arith) ∙ rw (e, lt-ltb k 64 h) (let z = or-weighs k w in omega (arith, z))

@@ -32,15 +32,11 @@ pub fn with_bit(w: u64, k: u16, v: bool) -> u64
     if 63 < k {
         return w;
     }
-    let weight = 1u64 << k;
-    if bit_on(w, k) {
-        if v {
-            return w;
-        }
-        return w - weight;
-    }
     if v {
-        return w + weight;
+        return slices::with_number(w, k as usize + 1);
+    }
+    if bit_on(w, k) {
+        return w - (1u64 << k);
     }
     w
 }

@@ -5,18 +5,19 @@ use Prim.Native.Nat.{_+_}
 use lib.Dec.{eqb}
 use Rattle.meaning.specs.Literals.{inputOn}
 use Rattle.asks.specs.WordsLaws.{asks-own, asks-not, asks-other, end-same}
+use Rattle.slices.specs.NumbersLaws.{numbered}
 use borrow.Author.Needs.{needs}
 use Rattle.asks.proofs.ask_input.Statement.{statement}
 use Rattle.asks.proofs.ask_input.Tie as tie
 
-with-requires : tie.Need-with-requires
-with-requires c κs = search needs
+with-number-requires : tie.Need-with-number-requires
+with-number-requires c κs = search needs
 
 returns : tie.Need-returns
 returns c z w e p q =
     let a = c .before .before .args .a in
     record {
-      on = λ n h g. c .with .ensures p q n h ∙ asks-own true (n) z (inputOn (a .on) n) (eqb (c .before .before .args .n) n) (rw (← w, c .before .if1 .taken)) (ap (λ x. eqb x n) e);
+      on = λ n h g. numbered (c .with-number .result) (a .on) (c .before .before .args .n) n (c .with-number .ensures) p q h ∙ asks-own true (n) z (inputOn (a .on) n) (eqb (c .before .before .args .n) n) (rw (← w, c .before .if1 .taken)) (ap (λ x. eqb x n) e);
       off = λ n h g. asks-not false (n) z (inputOn (a .off) n) (rw (← w, c .before .if1 .taken));
       expired = λ n h g. asks-other true (100 + n) z (inputOn (a .expired) n) (λ x. omega (arith, e, x));
       unexpired = λ n h g. asks-other false (100 + n) z (inputOn (a .unexpired) n) (λ x. omega (arith, e, x));
@@ -24,15 +25,15 @@ returns c z w e p q =
       passes = refl;
     }
 
-with-requires-2 : tie.Need-with-requires-2
-with-requires-2 c κs = search needs
+with-number-requires-2 : tie.Need-with-number-requires-2
+with-number-requires-2 c κs = search needs
 
 returns-2 : tie.Need-returns-2
 returns-2 c z w e p q =
     let a = c .before .before .args .a in
     record {
       on = λ n h g. asks-not true (n) z (inputOn (a .on) n) (rw (← w, c .before .if1 .left));
-      off = λ n h g. c .with2 .ensures p q n h ∙ asks-own false (n) z (inputOn (a .off) n) (eqb (c .before .before .args .n) n) (rw (← w, c .before .if1 .left)) (ap (λ x. eqb x n) e);
+      off = λ n h g. numbered (c .with-number2 .result) (a .off) (c .before .before .args .n) n (c .with-number2 .ensures) p q h ∙ asks-own false (n) z (inputOn (a .off) n) (eqb (c .before .before .args .n) n) (rw (← w, c .before .if1 .left)) (ap (λ x. eqb x n) e);
       expired = λ n h g. asks-other true (100 + n) z (inputOn (a .expired) n) (λ x. omega (arith, e, x));
       unexpired = λ n h g. asks-other false (100 + n) z (inputOn (a .unexpired) n) (λ x. omega (arith, e, x));
       end = end-same z (a .ended) (λ x. omega (arith, e, x));
@@ -40,4 +41,4 @@ returns-2 c z w e p q =
     }
 
 pub ask-input-spec : {M : Type 1} → statement M
-ask-input-spec = tie.close (tie.spec with-requires returns with-requires-2 returns-2)
+ask-input-spec = tie.close (tie.spec with-number-requires returns with-number-requires-2 returns-2)

@@ -2,12 +2,13 @@ use native.Mathlib.Omega.{arith}
 use lib.ListN.{getD}
 use Rattle.meaning.specs.Literals.{inputOn}
 use Rattle.pairing.specs.WordsLaws.{row-other, added}
+use Rattle.slices.specs.NumbersLaws.{numbered}
 use borrow.Author.Needs.{needs}
 use Rattle.pairing.proofs.add_row.Statement.{statement}
 use Rattle.pairing.proofs.add_row.Tie as tie
 use Rattle.pairing.proofs.add_row.Reads as reads
 use Rattle.pairing.proofs.add_row.Lts as lts
-use Rattle.pairing.proofs.with.Reads as with-reads
+use Rattle.slices.proofs.with_number.Reads as with-number-reads
 use Rattle.tables.proofs.pair_number.Reads as pair-number-reads
 use Rattle.tables.proofs.pair_state.Reads as pair-state-reads
 
@@ -35,14 +36,14 @@ returns-3 c n l h k g =
     let e = c .before .before .before .pair-state .ensures in
     row-other (a .pairs .now) (inputOn (getD (a .words .now) l 0) n) n l (a .i) (λ q f. omega (arith, c .if3 .taken, e, f, g))
 
-mul-with : tie.Need-mul-with
-mul-with c = search needs
+mul-with-number : tie.Need-mul-with-number
+mul-with-number c = search needs
 
-slice-read-with : tie.Need-slice-read-with
-slice-read-with c = search needs
+slice-read-with-number : tie.Need-slice-read-with-number
+slice-read-with-number c = search needs
 
-with-requires : tie.Need-with-requires
-with-requires c κs = search needs
+with-number-requires : tie.Need-with-number-requires
+with-number-requires c κs = search needs
 
 mul-words : tie.Need-mul-words
 mul-words c = search needs
@@ -58,8 +59,8 @@ returns-4 c n l h k g =
     let a = c .before .before .before .before .before .before .before .before .before .args in
     let p = c .before .before .before .before .before .pair-state in
     let q = c .before .before .before .before .before .before .pair-number in
-    added (a .pairs .now) (a .words .now) n l (a .i) (c .with .result) (p .result) (q .result) (p .ensures) (q .ensures) g
-    (c .with .ensures n h)
+    added (a .pairs .now) (a .words .now) n l (a .i) (c .with-number .result) (p .result) (q .result) (p .ensures) (q .ensures) g
+    (numbered (c .with-number .result) (getD (a .words .now) (p .result) 0) (q .result) n (c .with-number .ensures) (omega arith) (omega arith) h)
 
 pub add-row-spec : {M : Type 1} → statement M
 add-row-spec =
@@ -70,9 +71,9 @@ add-row-spec =
     returns
     returns-2
     returns-3
-    mul-with
-    slice-read-with
-    with-requires
+    mul-with-number
+    slice-read-with-number
+    with-number-requires
     mul-words
     slice-write-words
     same-length
