@@ -5,21 +5,21 @@ use Prim.Native.Nat.{ℕ, _≤_, _<_}
 use native.Mathlib.Omega.{arith}
 use Rattle.meaning.specs.declared.Refusal.the-variants as R
 use Rattle.meaning.specs.declared.Verdict.the-variants as G
-use Rattle.file.specs.declared.Answer.{Answer as FileAnswer}
-use Rattle.file.specs.Reads.{RecordsRead, records-read-same}
-use Rattle.telling.specs.declared.Answer.{Answer}
-use Rattle.telling.specs.Answers.{Told}
-use Rattle.telling.specs.Files.{fileOf, RecordsTold}
-use Rattle.telling.specs.Once.{refused-once, tell-records-once}
+use Rattle.csv_file.specs.declared.FileRead.{FileRead as FileAnswer}
+use Rattle.csv_file.specs.Reads.{RecordsRead, records-read-same}
+use Rattle.c_answers.specs.declared.CAnswer.{CAnswer}
+use Rattle.c_answers.specs.Answers.{Told}
+use Rattle.c_answers.specs.Files.{fileOf, RecordsTold}
+use Rattle.c_answers.specs.Once.{refused-once, tell-records-once}
 
 -- SIZE for a number that no file has, else what the file is read as
-pub data KindRead (kind : ℕ) (bs out : List ℕ) (a : Answer) (left : List ℕ) : Type 0 where
+pub data KindRead (kind : ℕ) (bs out : List ℕ) (a : CAnswer) (left : List ℕ) : Type 0 where
   unknown : 6 < kind → Told (G.Refused R.Size) 0 a → left ≡ out → KindRead kind bs out a left
   known : kind ≤ 6 → (r : FileAnswer) → RecordsRead (fileOf kind) bs out r left → RecordsTold r a → KindRead kind bs out a left
 
 -- ---- no second answer
 
-pub kind-read-same : {kind : ℕ} {bs out : List ℕ} {a b : Answer} {l m : List ℕ} → KindRead kind bs out a l → KindRead kind bs out b m → (a ≡ b) × (l ≡ m)
+pub kind-read-same : {kind : ℕ} {bs out : List ℕ} {a b : CAnswer} {l m : List ℕ} → KindRead kind bs out a l → KindRead kind bs out b m → (a ≡ b) × (l ≡ m)
 kind-read-same {a = a} {b = b} (KindRead.unknown h p e) (KindRead.unknown k q f) = (refused-once R.Size a b p q, e ∙ sym f)
 kind-read-same (KindRead.unknown h p e) (KindRead.known k s q f) = absurd (omega arith)
 kind-read-same (KindRead.known h r p e) (KindRead.unknown k q f) = absurd (omega arith)

@@ -14,37 +14,37 @@ use Rattle.format.specs.declared.Decoded.the-variants.{Known, Unknown}
 
 -- by what a block's operand is: Tn.IN, Tn.PT, Tn, or any other
 abbrev pub blockCase : {A : Type 0} → (ℕ → A) → (ℕ → A) → (ℕ → A) → A → Operand → A
-blockCase on pt call any (Mx n) = any
-blockCase on pt call any (Ix n) = any
-blockCase on pt call any (Qx n) = any
-blockCase on pt call any (TimerQ n) = any
-blockCase on pt call any (TimerIn n) = on n
-blockCase on pt call any (TimerPt n) = pt n
-blockCase on pt call any (Timer n) = call n
-blockCase on pt call any False = any
-blockCase on pt call any True = any
+blockCase input pt call any (Mx n) = any
+blockCase input pt call any (Ix n) = any
+blockCase input pt call any (Qx n) = any
+blockCase input pt call any (TimerQ n) = any
+blockCase input pt call any (TimerIn n) = input n
+blockCase input pt call any (TimerPt n) = pt n
+blockCase input pt call any (Timer n) = call n
+blockCase input pt call any False = any
+blockCase input pt call any True = any
 
 -- Tn.IN or Tn.PT of a block that there may be
-unfoldable pub inputFits : Operand → Bool
-inputFits = blockCase (between 1 mostTimers) (between 1 mostTimers) (λ n. false) false
+unfoldable pub parameterFits : Operand → Bool
+parameterFits = blockCase (between 1 mostTimers) (between 1 mostTimers) (λ n. false) false
 
 -- Tn likewise
 unfoldable pub blockFits : Operand → Bool
 blockFits = blockCase (λ n. false) (λ n. false) (between 1 mostTimers) false
 
 -- some accepted list has it
-unfoldable pub instruction : Operator → Bool
-instruction (Ld o) = testable mostTimers o || constant o
-instruction (Ldn o) = testable mostTimers o
-instruction (And o) = testable mostTimers o
-instruction (Andn o) = testable mostTimers o
-instruction Or = true
-instruction Close = true
-instruction (St o) = flipFlopFits o || outputFits o || inputFits o
-instruction (S o) = flipFlopFits o
-instruction (R o) = flipFlopFits o
-instruction (Cal o) = blockFits o
-instruction (LdTime n) = between 1 mostPreset n
+unfoldable pub operatorFits : Operator → Bool
+operatorFits (Ld o) = testable mostTimers o || constant o
+operatorFits (Ldn o) = testable mostTimers o
+operatorFits (And o) = testable mostTimers o
+operatorFits (Andn o) = testable mostTimers o
+operatorFits Or = true
+operatorFits Close = true
+operatorFits (St o) = flipFlopFits o || outputFits o || parameterFits o
+operatorFits (S o) = flipFlopFits o
+operatorFits (R o) = flipFlopFits o
+operatorFits (Cal o) = blockFits o
+operatorFits (LdTime n) = between 1 mostPreset n
 
 -- the operand of a number; T0, which nothing takes, where there is none
 unfoldable pub operandOf : ℕ → Operand
@@ -59,7 +59,7 @@ operandOf n = cond (leb n 384) (Mx n)
     (cond (eqb n 2001) True (Timer 0)))))))))
 
 unfoldable pub kept : Operator → Decoded
-kept i = cond (instruction i) (Known i) Unknown
+kept i = cond (operatorFits i) (Known i) Unknown
 
 -- operator k with operand m
 unfoldable pub unpacked : ℕ → ℕ → Decoded

@@ -1,11 +1,10 @@
--- The Lamp chart of document 01: its text, and what the program prints for its seven files.
-use mathlib.Core.Path.{_≡_, refl}
+-- The Lamp chart of document 01: its text, and what the program prints for its seven files. Laws/Lamp.antt proves it.
+use mathlib.Core.Path.{_≡_}
 use Prim.Native.Nat.{ℕ}
 use mathlib.Core.List.{List, _++_}
-use Rattle.meaning.specs.Cases.{move, lamp}
+use Rattle.meaning.specs.Cases.{lamp}
 use Rattle.format.specs.Text.{bytes}
 use Rattle.format.specs.Printed.{Files, tables, chartText, printed}
-use Rattle.format.specs.Compute.{computeAll}
 
 -- as document 01 prints it
 unfoldable pub lampText : List ℕ
@@ -27,7 +26,3 @@ pub record Lamp : Type 0 where
   pub text : chartText lamp ≡ lampText
   pub read : tables lampFiles ≡ lamp
   pub printing : printed lampFiles ≡ lampText ++ bytes "1,2,1\n2,2,1\n3,2,1\n4,2,1\n5,1,0\n"
-
-pub theLamp : Lamp
-unfolding computeAll move lamp lampText lampFiles
-theLamp = record { text = refl; read = refl; printing = refl }

@@ -1,28 +1,14 @@
+-- What must be believed, in the order in which it is best read; then what is proved of it.
 pub mod Words
+pub mod Decode
 pub mod Text
+pub mod Bytes
 pub mod Places
 pub mod TextWritten
 pub mod Records
 pub mod Printed
-pub mod Compute
 pub mod Lamp
-pub mod Decode
-pub mod DecodeLaws
-pub mod Operands
-pub mod Phases
-pub mod Moves
-pub mod Passing
-pub mod Continuing
-pub mod Parsing
-pub mod Unique
-pub mod WordLaws
-pub mod Lines
-pub mod Decimals
-pub mod LineLaws
-pub mod Pages
-pub mod PageLaws
-pub mod TextLaws
-pub mod TextPlaces
-pub mod Bytes
-pub mod TextReader
-pub mod Measured
+-- the automata that the reader's code follows: proved to do what the definitions say
+pub mod Automata
+-- laws
+pub mod Laws

@@ -9,6 +9,7 @@ use Rattle.meaning.specs.Programs.{all}
 use Rattle.meaning.specs.Literals.{between}
 use Rattle.format.specs.Text.{decimal}
 
+-- b put before the first piece
 unfoldable pub front : ℕ → List (List ℕ) → List (List ℕ)
 front b [] = (b ∷ []) ∷ []
 front b (p ∷ ps) = (b ∷ p) ∷ ps
@@ -18,26 +19,29 @@ unfoldable pub pieces : ℕ → List ℕ → List (List ℕ)
 pieces sep [] = [] ∷ []
 pieces sep (b ∷ bs) = cond (eqb b sep) ([] ∷ pieces sep bs) (front b (pieces sep bs))
 
--- CR LF or LF alone
+-- without the CR of a record that ended in CR LF
 unfoldable pub withoutCr : List ℕ → List ℕ
 withoutCr [] = []
 withoutCr (b ∷ []) = cond (eqb b 13) [] (b ∷ [])
 withoutCr (b ∷ d ∷ bs) = b ∷ withoutCr (d ∷ bs)
 
--- the last record ends with the file; nothing after the last LF is no record
-unfoldable pub ended : List (List ℕ) → List (List ℕ)
-ended [] = []
-ended ([] ∷ []) = []
-ended ((b ∷ bs) ∷ []) = (b ∷ bs) ∷ []
-ended (p ∷ q ∷ ps) = withoutCr p ∷ ended (q ∷ ps)
+-- the end of the file ends the last record; an empty piece after the last LF is no record
+unfoldable pub endedRecords : List (List ℕ) → List (List ℕ)
+endedRecords [] = []
+endedRecords ([] ∷ []) = []
+endedRecords ((b ∷ bs) ∷ []) = (b ∷ bs) ∷ []
+endedRecords (p ∷ q ∷ ps) = withoutCr p ∷ endedRecords (q ∷ ps)
 
--- The records of a file. A quoted field may hold LF, comma and quotes, but then it is no decimal, and only the number of the first such record is asked: that is the number of LF before it.
+-- The records of a file. A quoted field may hold LF, comma and quotes, but then it is no decimal, and only the number
+-- of the first such record is asked: that is the number of LF before it.
 unfoldable pub records : List ℕ → List (List ℕ)
-records bs = ended (pieces 10 bs)
+records bs = endedRecords (pieces 10 bs)
 
 -- a quoted field counts by its content
 unfoldable pub content : List ℕ → List ℕ
-content f = cond (leb 2 (length f) && eqb (getD f 0 0) 34 && eqb (getD f (length f - 1) 0) 34) (take (length f - 2) (drop 1 f)) f
+content f =
+    cond (leb 2 (length f) && eqb (getD f 0 0) 34 && eqb (getD f (length f - 1) 0) 34)
+    (take (length f - 2) (drop 1 f)) f
 
 unfoldable pub fields : List ℕ → List (List ℕ)
 fields r = map content (pieces 44 r)
@@ -53,6 +57,7 @@ unfoldable pub spelt : ℕ → List ℕ → ℕ
 spelt n [] = n
 spelt n (b ∷ bs) = spelt (10 * n + (b - 48)) bs
 
+-- f is the decimal of a number from low to high; no field of more than 20 digits is, since `decimal` gives 20 at most
 unfoldable pub decimalWithin : ℕ → ℕ → List ℕ → Bool
 decimalWithin low high f = same (decimal (spelt 0 f)) f && between low high (spelt 0 f)
 

@@ -9,7 +9,7 @@ use mathlib.Core.List.{List, [], _∷_, _++_, flatMap}
 use lib.ListN.{length}
 use lib.Dec.{ltb}
 use Rattle.meaning.specs.Rows.{table}
-use Rattle.meaning.specs.Programs.{Program, instructions, fits}
+use Rattle.meaning.specs.Programs.{Program, instructions, programFits}
 use Rattle.meaning.specs.declared.Operand.{Operand}
 use Rattle.meaning.specs.declared.Operand.the-variants.{Mx, Ix, Qx, TimerQ, TimerIn, TimerPt, Timer, False, True}
 use Rattle.meaning.specs.declared.Operator.{Operator}
@@ -25,7 +25,7 @@ unfoldable pub digits : ℕ → ℕ → List ℕ
 digits zero n = (48 + n % 10) ∷ []
 digits (suc k) n = elim (ltb n 10) [ true ↦ [] | false ↦ digits k (n / 10) ] ++ ((48 + n % 10) ∷ [])
 
--- a number of 64 bits has at most 20; "Numbers have no leading zero."
+-- a number of 64 bits has at most 20 digits, and no larger one is printed; "Numbers have no leading zero."
 unfoldable pub decimal : ℕ → List ℕ
 decimal n = digits 19 n
 
@@ -67,11 +67,12 @@ unfoldable pub declarations : ℕ → List ℕ
 declarations zero = []
 declarations (suc d) = line (bytes "VAR") ++ (flatMap blockLine (table (λ n. n) 1 (suc d)) ++ line (bytes "END_VAR"))
 
--- "PROGRAM CHART; ..; the rungs; END_PROGRAM"
+-- "PROGRAM CHART; .. ; the rungs; END_PROGRAM"
 unfoldable pub text : Program → List ℕ
 text p = line (bytes "PROGRAM CHART")
-    ++ (declarations (length (p .timers)) ++ (flatMap (λ i. line (operatorText i)) (instructions p) ++ line (bytes "END_PROGRAM")))
+    ++ (declarations (length (p .timers))
+    ++ (flatMap (λ i. line (operatorText i)) (instructions p) ++ line (bytes "END_PROGRAM")))
 
 -- a text is accepted when it is that of a program that the grammar makes
 abbrev pub AcceptedText : List ℕ → Type 0
-AcceptedText l = (p : Program) × (fits p ≡ true) × (text p ≡ l)
+AcceptedText l = (p : Program) × (programFits p ≡ true) × (text p ≡ l)

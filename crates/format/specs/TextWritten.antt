@@ -1,5 +1,5 @@
--- What a writer of text answers and leaves, and that it has no second answer.
-use mathlib.Core.Path.{_≡_, sym, _∙_}
+-- What a writer of text answers and leaves.
+use mathlib.Core.Path.{_≡_}
 use mathlib.Core.Bool.{cond}
 use mathlib.Core.List.{List}
 use Prim.Native.Nat.{ℕ}
@@ -11,7 +11,7 @@ use Rattle.format.specs.Places.{room}
 use Rattle.format.specs.declared.Written.{Written}
 use Rattle.format.specs.declared.Written.the-variants.{Wrote, Refused}
 
--- the length of the text t where the slice l has room for it, else ROOM with that length
+-- the length of the text t where the slice l has room for it, else ROOM with that length as `room` gives it
 abbrev pub textAnswer : List ℕ → List ℕ → Written
 textAnswer t l = cond (leb (length t) (length l)) (Wrote (length t)) (Refused (R.Room (room (length t))))
 
@@ -23,7 +23,3 @@ textLeft t l = cond (leb (length t) (length l)) (overlaid t l) l
 pub record TextWritten (t l : List ℕ) (a : Written) (m : List ℕ) : Type 0 where
   pub answer : a ≡ textAnswer t l
   pub out : m ≡ textLeft t l
-
--- no second answer
-pub text-written-same : {t l : List ℕ} {a b : Written} {m n : List ℕ} → TextWritten t l a m → TextWritten t l b n → (a ≡ b) × (m ≡ n)
-text-written-same x y = (x .answer ∙ sym (y .answer), x .out ∙ sym (y .out))

@@ -3,7 +3,7 @@ use mathlib.Core.Path.{_≡_}
 use Prim.Native.Nat.{ℕ, _+_, _*_}
 use mathlib.Core.Bool.{true}
 use mathlib.Core.List.{List, map}
-use Rattle.meaning.specs.Programs.{Program, instructions, fits}
+use Rattle.meaning.specs.Programs.{Program, instructions, programFits}
 use Rattle.meaning.specs.declared.Operand.{Operand}
 use Rattle.meaning.specs.declared.Operand.the-variants.{Mx, Ix, Qx, TimerQ, TimerIn, TimerPt, Timer, False, True}
 use Rattle.meaning.specs.declared.Operator.{Operator}
@@ -41,4 +41,4 @@ words p = map word (instructions p)
 
 -- a list of words is accepted when it is that of a program that the grammar makes
 abbrev pub AcceptedWords : List ℕ → Type 0
-AcceptedWords l = (p : Program) × (fits p ≡ true) × (words p ≡ l)
+AcceptedWords l = (p : Program) × (programFits p ≡ true) × (words p ≡ l)

@@ -1,4 +1,5 @@
-// Words, texts, records and what the program prints: definitions, in specs/. Here the declared types that they speak of.
+// Words, texts, records and what the program prints: definitions, in specs/. Here the declared types that they speak
+// of.
 
 // What a writer of text answers: how many bytes it wrote, from the front, or why it wrote none.
 pub enum Written {
@@ -12,8 +13,8 @@ pub enum Decoded {
     Unknown,
 }
 
-// Where in a rung the reader is: between two rungs; in a body, after OR( or inside a bracket; after a store; after a timer
-// rung's ST Tn.IN, its time or its ST Tn.PT; or after what no list has.
+// Where in a rung the reader is: between two rungs; in a body, after OR( or inside a bracket; after a store; after a
+// timer rung's ST Tn.IN, its time or its ST Tn.PT; or after what no list has.
 pub enum Phase {
     Between,
     Body,

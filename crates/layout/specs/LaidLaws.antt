@@ -12,12 +12,12 @@ use lib.Seq.{getD-set-same, getD-set-other, ext-getD}
 use lib.Dec.{ltb}
 use borrow.Author.Tests.{lt-ltb, le-ltb, le-leb, lt-leb, eq-eqb, ne-eqb}
 use Rattle.meaning.specs.Rows.{count}
-use Rattle.meaning.specs.RowsLaws.{length-table, getD-table, count-le, which}
+use Rattle.meaning.specs.Laws.Rows.{length-table, getD-table, count-le, which}
 use Rattle.meaning.specs.Tables.{Tables, stateCount, superState, initial}
 use Rattle.meaning.specs.Hierarchy.{subState, subStates}
-use Rattle.meaning.specs.HierarchyLaws.{sub-state-tells}
-use Rattle.meaning.specs.LayoutLaws.{width-least}
-use Rattle.meaning.specs.Layout.{width, groupWidth, groupFirst, flipFlops, other, code}
+use Rattle.meaning.specs.Laws.Hierarchy.{sub-state-tells}
+use Rattle.meaning.specs.Laws.Layout.{width-least}
+use Rattle.meaning.specs.Layout.{width, groupWidth, groupFirst, flipFlopCount, otherSubState, code}
 use Rattle.layout.specs.declared.Layout.{Layout}
 use Rattle.layout.specs.Laid.{laidStates, givenCode, row, tally, LaidOut}
 
@@ -111,7 +111,7 @@ tally-skip t s q = ext-getD 0 (tally t s) (tally t (suc s)) (length-tally t s �
 
 -- tables with these states and nothing else
 abbrev pub statesOnly : List ℕ → Tables
-statesOnly l = record { step = 0; inputs = 0; outputs = 0; states = l; moves = []; presets = []; timerPairs = []; outputPairs = [] }
+statesOnly l = record { scanStep = 0; inputs = 0; outputs = 0; states = l; moves = []; presets = []; timerPairs = []; outputPairs = [] }
 
 no-sub : (c : Tables) (a s : ℕ) → a ≢ superState c s → subState c a s ≡ false
 no-sub c a s n = elim (which (subState c a s)) [ inl e ↦ absurd (n (sym (sub-state-tells c a s .0 e .under))) | inr e ↦ e ]
@@ -119,26 +119,26 @@ no-sub c a s n = elim (which (subState c a s)) [ inl e ↦ absurd (n (sym (sub-s
 no-root : (c : Tables) (a : ℕ) → subState c a 0 ≡ false
 no-root c a = elim (which (subState c a 0)) [ inl e ↦ absurd (sub-state-tells c a 0 .0 e .notRoot refl) | inr e ↦ e ]
 
-no-other : (c : Tables) (a s : ℕ) → subState c a s ≡ false → other c a s ≡ false
-unfolding other
+no-other : (c : Tables) (a s : ℕ) → subState c a s ≡ false → otherSubState c a s ≡ false
+unfolding otherSubState
 no-other c a s e = rw e
 
 pub count-root : (c : Tables) → tally (subState c) 0 ≡ tally (subState c) 1
 count-root c = tally-skip (subState c) 0 (λ a h. no-root c a)
 
-pub code-root : (c : Tables) → (tally (other c) 0 ≡ tally (other c) 1) × (row (givenCode c) 0 ≡ row (givenCode c) 1)
+pub code-root : (c : Tables) → (tally (otherSubState c) 0 ≡ tally (otherSubState c) 1) × (row (givenCode c) 0 ≡ row (givenCode c) 1)
 unfolding givenCode
-code-root c = (tally-skip (other c) 0 (λ a h. no-other c a 0 (no-root c a)), row-skip (givenCode c) 0 refl)
+code-root c = (tally-skip (otherSubState c) 0 (λ a h. no-other c a 0 (no-root c a)), row-skip (givenCode c) 0 refl)
 
 module _ (c : Tables) (s : ℕ) where
   -- under a number that no state has
   pub count-far : 256 ≤ superState c s → tally (subState c) s ≡ tally (subState c) (suc s)
   count-far f = tally-skip (subState c) s (λ a h. no-sub c a s (omega arith))
 
-  pub code-far : 256 ≤ superState c s → (tally (other c) s ≡ tally (other c) (suc s)) × (row (givenCode c) s ≡ row (givenCode c) (suc s))
+  pub code-far : 256 ≤ superState c s → (tally (otherSubState c) s ≡ tally (otherSubState c) (suc s)) × (row (givenCode c) s ≡ row (givenCode c) (suc s))
   unfolding givenCode
   code-far f = (
-    tally-skip (other c) s (λ a h. no-other c a s (no-sub c a s (omega arith))),
+    tally-skip (otherSubState c) s (λ a h. no-other c a s (no-sub c a s (omega arith))),
     row-skip (givenCode c) s (rw (le-ltb (superState c s) 256 f, and-false (ltb 0 s))),
   )
 
@@ -154,11 +154,11 @@ module _ (c : Tables) (s : ℕ) where
     count-next = tally-set (subState c) s (superState c s) near sub (λ a n. no-sub c a s n)
 
     -- "Its initial sub-state has code 0"
-    pub code-initial : s ≡ initial c (superState c s) → s < 256 → (tally (other c) s ≡ tally (other c) (suc s)) × (set (row (givenCode c) s) s 0 ≡ row (givenCode c) (suc s))
-    unfolding other code
+    pub code-initial : s ≡ initial c (superState c s) → s < 256 → (tally (otherSubState c) s ≡ tally (otherSubState c) (suc s)) × (set (row (givenCode c) s) s 0 ≡ row (givenCode c) (suc s))
+    unfolding otherSubState code
     code-initial e l =
         let z : givenCode c s ≡ 0 = given ∙ rw (eq-eqb s (initial c (superState c s)) e) in (
-          tally-skip (other c) s (λ a h. elim (ℕ-discrete a (superState c s)) [
+          tally-skip (otherSubState c) s (λ a h. elim (ℕ-discrete a (superState c s)) [
             | yes y ↦ rw (y, eq-eqb s (initial c (superState c s)) e) (and-false (subState c (superState c s) s))
             | no n ↦ no-other c a s (no-sub c a s n)
           ]),
@@ -167,14 +167,14 @@ module _ (c : Tables) (s : ℕ) where
 
     -- "the others 1, 2, and so on by rising state number"
     pub code-next : s ≢ initial c (superState c s) → s < 256 →
-        let v = getD (tally (other c) s) (superState c s) 0 + 1 in
-        (set (tally (other c) s) (superState c s) v ≡ tally (other c) (suc s)) × (set (row (givenCode c) s) s v ≡ row (givenCode c) (suc s))
-    unfolding other code
+        let v = getD (tally (otherSubState c) s) (superState c s) 0 + 1 in
+        (set (tally (otherSubState c) s) (superState c s) v ≡ tally (otherSubState c) (suc s)) × (set (row (givenCode c) s) s v ≡ row (givenCode c) (suc s))
+    unfolding otherSubState code
     code-next n l =
         let a = superState c s in
-        let v = getD (tally (other c) s) a 0 + 1 in
-        let z : givenCode c s ≡ v = given ∙ rw (ne-eqb s (initial c a) n, tally-at (other c) s a near) (omega arith) in (
-          tally-set (other c) s a near (rw (sub, ne-eqb s (initial c a) n)) (λ b m. no-other c b s (no-sub c b s m)),
+        let v = getD (tally (otherSubState c) s) a 0 + 1 in
+        let z : givenCode c s ≡ v = given ∙ rw (ne-eqb s (initial c a) n, tally-at (otherSubState c) s a near) (omega arith) in (
+          tally-set (otherSubState c) s a near (rw (sub, ne-eqb s (initial c a) n)) (λ b m. no-other c b s (no-sub c b s m)),
           ap (set (row (givenCode c) s) s) (sym z) ∙ row-set (givenCode c) s l,
         )
 
@@ -213,8 +213,8 @@ pub width-small : (n : ℕ) → n ≤ 256 → width n ≤ 8
 width-small n h = width-least n .least 8 h
 
 -- those of all states
-pub all-flip-flops : (c : Tables) → stateCount c ≤ 256 → groupFirst c (laidStates c) ≡ flipFlops c
-unfolding flipFlops
+pub all-flip-flops : (c : Tables) → stateCount c ≤ 256 → groupFirst c (laidStates c) ≡ flipFlopCount c
+unfolding flipFlopCount
 all-flip-flops c h = rw (laid-all c h)
 
 -- ---- what a layout says
@@ -242,5 +242,5 @@ module _ (c : Tables) (l : Layout) (o : LaidOut c l) (fits : stateCount c ≤ 25
       let u = r .under in
       rw (o .code, laid-all c fits) (row-in (givenCode c) (stateCount c) s (omega arith) k ∙ given c s (r .notRoot) k (omega arith))
 
-  pub total-is : l .total ≡ flipFlops c
+  pub total-is : l .total ≡ flipFlopCount c
   total-is = o .total ∙ all-flip-flops c fits

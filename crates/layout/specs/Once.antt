@@ -2,7 +2,8 @@
 use mathlib.Core.Path.{_≡_}
 use mathlib.Core.List.{List}
 use Prim.Native.Nat.{ℕ}
-use Rattle.meaning.specs.Once.{Once, states-once, on-states}
+use Rattle.meaning.specs.Once.{Once}
+use Rattle.meaning.specs.Laws.Once.{states-once, on-states}
 use Rattle.meaning.specs.Rows.{least}
 use Rattle.meaning.specs.Tables.{Tables, stateCount}
 use Rattle.meaning.specs.Layout.{groupFirst}

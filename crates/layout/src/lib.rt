@@ -1,5 +1,5 @@
-// The layout of a chart's flip-flops: which group each super-state has, and which code each sub-state. One pass over the
-// states gives each, so that the whole is linear in their number.
+// The layout of a chart's flip-flops: which group each super-state has, and which code each sub-state. One pass over
+// the states gives each, so that the whole is linear in their number.
 use tables::Chart;
 ghost use mathlib.Core.Path.{_≡_};
 ghost use Prim.Native.Nat.{_+_, _/_, _<_, _≤_};
@@ -7,7 +7,7 @@ ghost use lib.ListN.{length};
 ghost use Rattle.meaning.specs.Rows.{least, count};
 ghost use Rattle.meaning.specs.Tables.{Tables, stateCount};
 ghost use Rattle.meaning.specs.Hierarchy.{subState};
-ghost use Rattle.meaning.specs.Layout.{width, groupFirst, other};
+ghost use Rattle.meaning.specs.Layout.{width, groupFirst, otherSubState};
 ghost use Rattle.meaning.specs.Lent.{coded};
 ghost use Rattle.layout.specs.Laid.{laidStates, givenCode, row, tally, LaidOut};
 
@@ -19,7 +19,8 @@ pub struct Layout {
     pub total: u32,
 }
 
-// "A super-state with n sub-states gets the number of significant bits of n - 1: 0 for n = 1." A leaf's group is empty too.
+// "A super-state with n sub-states gets the number of significant bits of n - 1: 0 for n = 1." A leaf's group is
+// empty too.
 fn width(n: usize) -> u32
     ensures { λ r. ⌜ r ≡ width n ⌝ }
 {
@@ -31,7 +32,8 @@ fn width(n: usize) -> u32
 
 // How many states are laid out: none where there are more than a chart may have.
 fn laid_states(states: &[u16]) -> usize
-    ensures { λ r. ⌜ (r ≤ 256) × (r ≤ length (now (states .entry)) / 2) × ((c : Tables) → c .states ≡ now (states .entry) → r ≡ laidStates c) ⌝ }
+    ensures { λ r. ⌜ (r ≤ 256) × (r ≤ length (now (states .entry)) / 2)
+        × ((c : Tables) → c .states ≡ now (states .entry) → r ≡ laidStates c) ⌝ }
 {
     let n = states.len() / 2;
     if Chart::STATES < n {
@@ -43,8 +45,10 @@ fn laid_states(states: &[u16]) -> usize
 // Counts s for its super-state: "State 0 is the root .. and is nobody's sub-state". In tables that break the rules a
 // super-state can be any number, so those that no state has are passed over.
 fn count_one(states: &[u16], s: usize, counts: &mut [u16; 256])
-    requires { ⌜ (s < 256) × (s < length (now states) / 2) × ((c : Tables) → c .states ≡ now states → now counts ≡ tally (subState c) s) ⌝ }
-    ensures { λ r. ⌜ ((c : Tables) → c .states ≡ now (states .entry) → now (counts .exit) ≡ tally (subState c) (s + 1)) ⌝ }
+    requires { ⌜ (s < 256) × (s < length (now states) / 2)
+        × ((c : Tables) → c .states ≡ now states → now counts ≡ tally (subState c) s) ⌝ }
+    ensures { λ r. ⌜ ((c : Tables) → c .states ≡ now (states .entry)
+        → now (counts .exit) ≡ tally (subState c) (s + 1)) ⌝ }
 {
     if s == 0 {
         return;
@@ -70,11 +74,14 @@ fn sub_states_each(states: &[u16]) -> [u16; 256]
     counts
 }
 
-// "Its initial sub-state has code 0, the others 1, 2, and so on by rising state number.": for each super-state, others has
-// how many of them are below s. The root has no code.
+// "Its initial sub-state has code 0, the others 1, 2, and so on by rising state number.": for each super-state,
+// others has how many of them are below s. The root has no code.
 fn code_one(states: &[u16], s: usize, others: &mut [u16; 256], codes: &mut [u16; 256])
-    requires { ⌜ (s < 256) × (s < length (now states) / 2) × ((c : Tables) → c .states ≡ now states → (now others ≡ tally (other c) s) × (now codes ≡ row (givenCode c) s)) ⌝ }
-    ensures { λ r. ⌜ ((c : Tables) → c .states ≡ now (states .entry) → (now (others .exit) ≡ tally (other c) (s + 1)) × (now (codes .exit) ≡ row (givenCode c) (s + 1))) ⌝ }
+    requires { ⌜ (s < 256) × (s < length (now states) / 2)
+        × ((c : Tables) → c .states ≡ now states → (now others ≡ tally (otherSubState c) s)
+        × (now codes ≡ row (givenCode c) s)) ⌝ }
+    ensures { λ r. ⌜ ((c : Tables) → c .states ≡ now (states .entry)
+        → (now (others .exit) ≡ tally (otherSubState c) (s + 1)) × (now (codes .exit) ≡ row (givenCode c) (s + 1))) ⌝ }
 {
     if s == 0 {
         return;
@@ -149,7 +156,7 @@ pub fn flip_flops(states: &[u16]) -> u32
 
 // Whether s is a sub-state of a that is not the initial one.
 fn other(states: &[u16], a: usize, s: usize) -> bool
-    ensures { λ r. ⌜ ((c : Tables) → c .states ≡ now (states .entry) → r ≡ other c a s) ⌝ }
+    ensures { λ r. ⌜ ((c : Tables) → c .states ≡ now (states .entry) → r ≡ otherSubState c a s) ⌝ }
 {
     if s == tables::initial(states, a) {
         return false;
@@ -159,7 +166,8 @@ fn other(states: &[u16], a: usize, s: usize) -> bool
 
 // Whether s is the sub-state of a with code k, where a has this many others below s.
 fn coded(states: &[u16], a: usize, k: usize, s: usize, others: usize) -> bool
-    ensures { λ r. ⌜ ((c : Tables) → c .states ≡ now (states .entry) → others ≡ count (other c a) s → r ≡ coded c a k s) ⌝ }
+    ensures { λ r. ⌜ ((c : Tables) → c .states ≡ now (states .entry) → others ≡ count (otherSubState c a) s
+        → r ≡ coded c a k s) ⌝ }
 {
     if !tables::sub_state(states, a, s) {
         return false;

@@ -15,11 +15,13 @@ stateCheck c l = record { refusal = λ p. R.State; rows = 1; passes = λ i. stat
 unfoldable pub scansCheck : ℕ → ℕ → Check
 scansCheck inputs results = record { refusal = λ p. R.Scans; rows = 1; passes = λ i. eqb results inputs }
 
--- "Checks 1 to 11 come first wherever tables or a scan step are given, .. then 14, 15": a run of the chart over lent state, with its input words and its two result slices
+-- "Checks 1 to 11 come first wherever tables or a scan step are given, .. then 14, 15": a run of the chart over lent
+-- state, with its input words and its two result slices
 unfoldable pub chartRunChecks : Tables → List ℕ → List ℕ → List ℕ → List ℕ → List Check
 chartRunChecks c l inputs leaves outputs =
-    checks c ++ (stateCheck c l ∷ scansCheck (length inputs) (length leaves) ∷ scansCheck (length inputs) (length outputs) ∷ [])
+    checks c
+    ++ (stateCheck c l ∷ scansCheck (length inputs) (length leaves) ∷ scansCheck (length inputs) (length outputs) ∷ [])
 
--- "An accepted call writes its result from the front and keeps the rest of the slice."
+-- "An accepted call writes its result from the front and keeps the rest of the slice."; asked only where it fits
 unfoldable pub overlaid : {A : Type 0} → List A → List A → List A
 overlaid result l = result ++ drop (length result) l

@@ -1,4 +1,6 @@
--- The verdict of the tables: an ordered list of checks, each over all its rows before the next begins.
+-- The verdict of the tables: an ordered list of checks, each over all its rows before the next begins. The tests
+-- here are for computing; what each check is about stands in document 01's words in Rules.antt, and
+-- Laws/Rules.antt proves that each test passes exactly where its rule is kept (OVERLAP: where LITERAL passes).
 use Prim.Native.Nat.{ℕ, suc, _-_, _%_}
 use mathlib.Core.Bool.{Bool, true, false, _&&_, _||_, not, cond, Bool·beq}
 use mathlib.Core.List.{List, [], _∷_}
@@ -6,10 +8,15 @@ use lib.ListN.{length}
 use lib.Dec.{leb, ltb, eqb}
 use lib.IntN.{ℤ, pos, negsuc, natAbs}
 use Rattle.meaning.specs.Rows.{least, some, every}
-use Rattle.meaning.specs.Tables.{Tables, mostStates, mostDepth, mostMoves, mostInputs, mostOutputs, mostTimers, mostFlipFlops, mostPairs, mostStep, mostPreset, stateRow, moveRow, pairRow, literalPlaces}
-use Rattle.meaning.specs.Tables.{stateCount, moveCount, timerCount, pairCount, superState, initial, cell, source, target, literal, preset, pairNumber, pairState}
-use Rattle.meaning.specs.Hierarchy.{depth, atOrAbove, subState, leaf, runs}
-use Rattle.meaning.specs.Layout.{flipFlops}
+use Rattle.meaning.specs.Tables.{Tables, mostStates, mostDepth, mostMoves, mostInputs, mostOutputs}
+use Rattle.meaning.specs.Tables.{mostTimers}
+use Rattle.meaning.specs.Tables.{mostFlipFlops, mostPairs, mostScanStep, mostPreset, stateRow, moveRow, pairRow}
+use Rattle.meaning.specs.Tables.{literalPlaces}
+use Rattle.meaning.specs.Tables.{stateCount, moveCount, timerCount, pairCount, superState, initial, cell}
+use Rattle.meaning.specs.Tables.{source}
+use Rattle.meaning.specs.Tables.{target, literal, preset, pairNumber, pairState}
+use Rattle.meaning.specs.Hierarchy.{depth, atOrAbove, subState, isLeaf, timerRuns}
+use Rattle.meaning.specs.Layout.{flipFlopCount}
 use Rattle.meaning.specs.Literals.{between, kindOf, wanted}
 use Rattle.meaning.specs.declared.Kind.{Kind}
 use Rattle.meaning.specs.declared.Kind.the-variants.{Unused, Input, Timer, Unknown}
@@ -24,13 +31,14 @@ pub record Check : Type 0 where
   pub rows : ℕ
   pub passes : ℕ → Bool
 
--- "The place is the least failing row, from 0."
+-- "The place is the least failing row, from 0."; if none fails, the number of rows
 unfoldable pub firstFailing : Check → ℕ
 firstFailing k = least (λ i. not (k .passes i)) 0 (k .rows)
 
 unfoldable pub verdictOf : List Check → Verdict
 verdictOf [] = Accepted
-verdictOf (k ∷ ks) = elim (eqb (firstFailing k) (k .rows)) [ true ↦ verdictOf ks | false ↦ Refused (k .refusal (firstFailing k)) ]
+verdictOf (k ∷ ks) =
+    elim (eqb (firstFailing k) (k .rows)) [ true ↦ verdictOf ks | false ↦ Refused (k .refusal (firstFailing k)) ]
 
 unfoldable pub sizePasses : Tables → Bool
 sizePasses c =
@@ -38,23 +46,25 @@ sizePasses c =
     && eqb (length (c .timerPairs) % pairRow) 0 && eqb (length (c .outputPairs) % pairRow) 0
     && between 1 mostStates (stateCount c) && leb (moveCount c) mostMoves && leb (timerCount c) mostTimers
     && leb (pairCount (c .timerPairs)) mostPairs && leb (pairCount (c .outputPairs)) mostPairs
-    && leb (c .inputs) mostInputs && leb (c .outputs) mostOutputs && between 1 mostStep (c .step)
+    && leb (c .inputs) mostInputs && leb (c .outputs) mostOutputs && between 1 mostScanStep (c .scanStep)
 
 unfoldable pub hierarchyPasses : Tables → ℕ → Bool
 hierarchyPasses c s = cond (eqb s 0) (eqb (superState c s) 0) (ltb (superState c s) s) && leb (depth c s) mostDepth
 
 unfoldable pub initialPasses : Tables → ℕ → Bool
-initialPasses c s = cond (leaf c s) (eqb (initial c s) 0) (subState c s (initial c s))
+initialPasses c s = cond (isLeaf c s) (eqb (initial c s) 0) (subState c s (initial c s))
 
 unfoldable pub presetPasses : Tables → ℕ → Bool
 presetPasses c i = between 1 mostPreset (preset c (suc i))
 
 -- the pair of row i comes after that of row j, in the order of (first, second)
 unfoldable pub pairAfter : List ℕ → ℕ → ℕ → Bool
-pairAfter ps j i = ltb (pairNumber ps j) (pairNumber ps i) || (eqb (pairNumber ps j) (pairNumber ps i) && ltb (pairState ps j) (pairState ps i))
+pairAfter ps j i = ltb (pairNumber ps j) (pairNumber ps i)
+    || (eqb (pairNumber ps j) (pairNumber ps i) && ltb (pairState ps j) (pairState ps i))
 
 unfoldable pub pairPasses : Tables → ℕ → List ℕ → ℕ → Bool
-pairPasses c many ps i = between 1 many (pairNumber ps i) && ltb (pairState ps i) (stateCount c) && (eqb i 0 || pairAfter ps (i - 1) i)
+pairPasses c many ps i = between 1 many (pairNumber ps i) && ltb (pairState ps i) (stateCount c)
+    && (eqb i 0 || pairAfter ps (i - 1) i)
 
 -- z is one of 0, 1, .. , n - 1
 unfoldable pub below : ℕ → ℤ → Bool
@@ -63,7 +73,7 @@ below n (negsuc k) = false
 
 unfoldable pub movePasses : Tables → ℕ → Bool
 movePasses c i = below (stateCount c) (cell c i 0) && below (stateCount c) (cell c i 1)
-    && (below 1 (cell c i 2) || (below 2 (cell c i 2) && not (leaf c (target c i))))
+    && (below 1 (cell c i 2) || (below 2 (cell c i 2) && not (isLeaf c (target c i))))
 
 unfoldable pub withinCounts : Tables → Kind → Bool
 withinCounts c Unused = true
@@ -82,11 +92,11 @@ placePasses c i k = withinCounts c (kindOf (natAbs (literal c i k))) && every (�
 unfoldable pub literalPasses : Tables → ℕ → Bool
 literalPasses c i = every (placePasses c i) 0 literalPlaces
 
--- every leaf at or below s runs what a literal of this kind asks
+-- every leaf at or below s runs what a literal of this kind asks; Unknown is never asked, LITERAL refuses it first
 unfoldable pub runsBelow : Tables → ℕ → Kind → Bool
 runsBelow c s Unused = true
 runsBelow c s (Input i) = true
-runsBelow c s (Timer t) = every (λ l. not (leaf c l && atOrAbove c s l) || runs c t l) 0 (stateCount c)
+runsBelow c s (Timer t) = every (λ l. not (isLeaf c l && atOrAbove c s l) || timerRuns c t l) 0 (stateCount c)
 runsBelow c s Unknown = true
 
 unfoldable pub idlePasses : Tables → ℕ → Bool
@@ -107,7 +117,7 @@ unfoldable pub overlapPasses : Tables → ℕ → Bool
 overlapPasses c i = not (some (overlaps c i) 0 i)
 
 unfoldable pub flipFlopPasses : Tables → Bool
-flipFlopPasses c = leb (flipFlops c) mostFlipFlops
+flipFlopPasses c = leb (flipFlopCount c) mostFlipFlops
 
 unfoldable pub checks : Tables → List Check
 checks c =
@@ -115,8 +125,16 @@ checks c =
     ∷ record { refusal = R.Hierarchy; rows = stateCount c; passes = hierarchyPasses c }
     ∷ record { refusal = R.Initial; rows = stateCount c; passes = initialPasses c }
     ∷ record { refusal = R.Preset; rows = timerCount c; passes = presetPasses c }
-    ∷ record { refusal = R.TimerPair; rows = pairCount (c .timerPairs); passes = pairPasses c (timerCount c) (c .timerPairs) }
-    ∷ record { refusal = R.OutputPair; rows = pairCount (c .outputPairs); passes = pairPasses c (c .outputs) (c .outputPairs) }
+    ∷ record {
+      refusal = R.TimerPair;
+      rows = pairCount (c .timerPairs);
+      passes = pairPasses c (timerCount c) (c .timerPairs);
+    }
+    ∷ record {
+      refusal = R.OutputPair;
+      rows = pairCount (c .outputPairs);
+      passes = pairPasses c (c .outputs) (c .outputPairs);
+    }
     ∷ record { refusal = R.Move; rows = moveCount c; passes = movePasses c }
     ∷ record { refusal = R.Literal; rows = moveCount c; passes = literalPasses c }
     ∷ record { refusal = R.IdleTimer; rows = moveCount c; passes = idlePasses c }

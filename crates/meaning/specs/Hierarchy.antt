@@ -21,14 +21,15 @@ levels c (suc k) (suc s) = suc (levels c k (superState c (suc s)))
 unfoldable pub depth : Tables → ℕ → ℕ
 depth c s = levels c (suc mostDepth) s
 
--- a is at or above s: s, or its super-state, or that one's, and so on
+-- a is at or above s: s, or its super-state, or that one's, and so on, 8 times at most; where HIERARCHY passes these
+-- are all
 unfoldable pub atOrAbove : Tables → ℕ → ℕ → Bool
 atOrAbove c a s = some (λ k. eqb (up c k s) a) 0 (suc mostDepth)
 
 unfoldable pub above : Tables → ℕ → ℕ → Bool
 above c a s = atOrAbove c a s && not (eqb a s)
 
--- the sub-state of a on the way down to s
+-- the sub-state of a on the way down to s; asked only where a is above s
 unfoldable pub onTheWay : Tables → ℕ → ℕ → ℕ
 onTheWay c a s = up c (depth c s - suc (depth c a)) s
 
@@ -40,16 +41,16 @@ unfoldable pub subStates : Tables → ℕ → ℕ
 subStates c a = count (subState c a) (stateCount c)
 
 -- "A state without sub-states is a leaf"
-unfoldable pub leaf : Tables → ℕ → Bool
-leaf c s = eqb (subStates c s) 0
+unfoldable pub isLeaf : Tables → ℕ → Bool
+isLeaf c s = eqb (subStates c s) 0
 
 -- a state paired with n is on the path of the leaf l
 unfoldable pub paired : Tables → List ℕ → ℕ → ℕ → Bool
 paired c ps n l = some (λ i. eqb (pairNumber ps i) n && atOrAbove c (pairState ps i) l) 0 (pairCount ps)
 
 -- "A timer runs when a paired state is on the path."
-unfoldable pub runs : Tables → ℕ → ℕ → Bool
-runs c t l = paired c (c .timerPairs) t l
+unfoldable pub timerRuns : Tables → ℕ → ℕ → Bool
+timerRuns c t l = paired c (c .timerPairs) t l
 
 -- "An output is on when a paired state is on the path."
 unfoldable pub outputOn : Tables → ℕ → ℕ → Bool

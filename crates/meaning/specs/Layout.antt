@@ -28,14 +28,14 @@ unfoldable pub groupFirst : Tables → ℕ → ℕ
 groupFirst c zero = 0
 groupFirst c (suc a) = groupFirst c a + groupWidth c a
 
--- B
-unfoldable pub flipFlops : Tables → ℕ
-flipFlops c = groupFirst c (stateCount c)
+-- B of "With B flip-flops": how many the chart has
+unfoldable pub flipFlopCount : Tables → ℕ
+flipFlopCount c = groupFirst c (stateCount c)
 
 -- a sub-state of a that is not the initial one
-unfoldable pub other : Tables → ℕ → ℕ → Bool
-other c a s = subState c a s && not (eqb s (initial c a))
+unfoldable pub otherSubState : Tables → ℕ → ℕ → Bool
+otherSubState c a s = subState c a s && not (eqb s (initial c a))
 
 -- "Its initial sub-state has code 0, the others 1, 2, and so on by rising state number."
 unfoldable pub code : Tables → ℕ → ℕ
-code c s = cond (eqb s (initial c (superState c s))) 0 (suc (count (other c (superState c s)) s))
+code c s = cond (eqb s (initial c (superState c s))) 0 (suc (count (otherSubState c (superState c s)) s))

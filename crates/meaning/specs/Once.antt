@@ -1,13 +1,10 @@
--- No second answer: what that says of a contract, and how contracts of the usual shapes come to it. An outcome is the result, the lent
--- slices at exit, or both. Each crate's Once.antt has one law for each public function, about the very predicate in its `ensures`.
-use mathlib.Core.Path.{_≡_, refl, sym, _∙_}
-use mathlib.Core.List.{List, []}
+-- No second answer: what that says of a contract. An outcome is the result, the lent slices at exit, or both. Each
+-- library crate has a law for each of its public functions (specs/Once.antt; here Laws/Once.antt), about the very
+-- predicate in its `ensures`; docs/PROMISES.md lists the exceptions.
+use mathlib.Core.Path.{_≡_}
+use mathlib.Core.List.{List}
 use Prim.Native.Nat.{ℕ, _^_, _<_}
 use lib.ListN.{getD}
-use lib.IntN.{ℤ}
-use Rattle.meaning.specs.Tables.{Tables}
-use Rattle.meaning.specs.Refusals.{numberOf, placeOf}
-use Rattle.meaning.specs.declared.Refusal.{Refusal}
 
 -- any two outcomes that meet P are the same
 abbrev pub Once : {A : Type 0} → (A → Type 0) → Type 0
@@ -17,55 +14,6 @@ Once {A} P = (x y : A) → P x → P y → x ≡ y
 abbrev pub OnceSeen : {A B : Type 0} → (A → B) → (A → Type 0) → Type 0
 OnceSeen {A} see P = (x y : A) → P x → P y → see x ≡ see y
 
--- ---- an outcome of several parts
-
-pub two : {A B : Type 0} {x y : A × B} → (x .0 ≡ y .0) × (x .1 ≡ y .1) → x ≡ y
-two e = λ i. (e .0 i, e .1 i)
-
-pub three : {A B C : Type 0} {x y : A × B × C} → (x .0 ≡ y .0) × (x .1 ≡ y .1) × (x .2 ≡ y .2) → x ≡ y
-three e = λ i. (e .0 i, e .1 i, e .2 i)
-
-pub four : {A B C D : Type 0} {x y : A × B × C × D} → (x .0 ≡ y .0) × (x .1 ≡ y .1) × (x .2 ≡ y .2) × (x .3 ≡ y .3) → x ≡ y
-four e = λ i. (e .0 i, e .1 i, e .2 i, e .3 i)
-
-pub five : {A B C D E : Type 0} {x y : A × B × C × D × E} → (x .0 ≡ y .0) × (x .1 ≡ y .1) × (x .2 ≡ y .2) × (x .3 ≡ y .3) × (x .4 ≡ y .4) → x ≡ y
-five e = λ i. (e .0 i, e .1 i, e .2 i, e .3 i, e .4 i)
-
--- ---- the usual shapes
-
--- an equation
-pub is-once : {A : Type 0} (v : A) → Once (λ r. r ≡ v)
-is-once v x y p q = p ∙ sym q
-
--- an equation for the result, and one for the lent slice
-pub both-once : {A B : Type 0} (v : A) (l : B) → Once {A = A × B} (λ (r, m). (r ≡ v) × (m ≡ l))
-both-once v l x y p q = two (p .0 ∙ sym (q .0), p .1 ∙ sym (q .1))
-
--- tables with these states, moves and presets: whatever holds for all such tables holds for these
-abbrev pub tablesWith : List ℕ → List ℤ → List ℕ → Tables
-tablesWith ss ms ps = record { step = 0; inputs = 0; outputs = 0; states = ss; moves = ms; presets = ps; timerPairs = []; outputPairs = [] }
-
-pub on-states : {A : Type 0} (P : Tables → A → Type 0) → ((c : Tables) → Once (P c)) → (ss : List ℕ) → Once (λ r. (c : Tables) → c .states ≡ ss → P c r)
-on-states P f ss x y p q = let c = tablesWith ss [] [] in f c x y (p c refl) (q c refl)
-
-pub on-moves : {A : Type 0} (P : Tables → A → Type 0) → ((c : Tables) → Once (P c)) → (ms : List ℤ) → Once (λ r. (c : Tables) → c .moves ≡ ms → P c r)
-on-moves P f ms x y p q = let c = tablesWith [] ms [] in f c x y (p c refl) (q c refl)
-
--- an equation for all tables with these states, or with these moves
-pub states-once : {A : Type 0} (f : Tables → A) (ss : List ℕ) → Once (λ r. (c : Tables) → c .states ≡ ss → r ≡ f c)
-states-once f = on-states (λ c r. r ≡ f c) (λ c. is-once (f c))
-
-pub moves-once : {A : Type 0} (f : Tables → A) (ms : List ℤ) → Once (λ r. (c : Tables) → c .moves ≡ ms → r ≡ f c)
-moves-once f = on-moves (λ c r. r ≡ f c) (λ c. is-once (f c))
-
 -- what the type of a slice of 64-bit words says of it, where a contract tells the words bit by bit
-abbrev pub Words : List ℕ → Type 0
-Words l = (i : ℕ) → getD l i 0 < 2 ^ 64
-
--- ---- the functions of this crate
-
-pub number-once : (r : Refusal) → Once (λ n. n ≡ numberOf r)
-number-once r = is-once (numberOf r)
-
-pub place-once : (r : Refusal) → Once (λ n. n ≡ placeOf r)
-place-once r = is-once (placeOf r)
+abbrev pub Words64 : List ℕ → Type 0
+Words64 l = (i : ℕ) → getD l i 0 < 2 ^ 64

@@ -47,6 +47,8 @@ pub record Program : Type 0 where
   pub timers : List TimerRung
   pub rungs : List Rung
 
+-- ---- the instructions of a test, of a chain, and so on up to a program
+
 unfoldable pub loadOf : Test → Operator
 loadOf t = cond (t .wanted) (Ld (t .operand)) (Ldn (t .operand))
 
@@ -109,7 +111,7 @@ flipFlopFits = operandCase (λ n. leb n mostMx) (λ n. false) (λ n. false) (λ 
 unfoldable pub outputFits : Operand → Bool
 outputFits = operandCase (λ n. false) (λ n. false) (between 1 mostOutputs) (λ n. false) false
 
--- "TRUE and FALSE after LD only"
+-- TRUE or FALSE
 unfoldable pub constant : Operand → Bool
 constant (Mx n) = false
 constant (Ix n) = false
@@ -121,6 +123,7 @@ constant (Timer n) = false
 constant False = true
 constant True = true
 
+-- "TRUE and FALSE after LD only"
 unfoldable pub loadFits : ℕ → Test → Bool
 loadFits d t = testable d (t .operand) || (t .wanted && constant (t .operand))
 
@@ -155,11 +158,11 @@ unfoldable pub timerRungFits : ℕ → TimerRung → Bool
 timerRungFits d r = bodyFits d (r .body) && between 1 mostPreset (r .time)
 
 -- "T1 to at most T32"
-unfoldable pub fits : Program → Bool
-fits p = let d = length (p .timers) in
+unfoldable pub programFits : Program → Bool
+programFits p = let d = length (p .timers) in
     leb d mostTimers && all (timerRungFits d) (p .timers) && all (rungFits d) (p .rungs)
 
--- what an instruction carries, or FALSE
+-- the operand that an instruction carries, or FALSE, which names no %MX
 unfoldable pub carried : Operator → Operand
 carried (Ld o) = o
 carried (Ldn o) = o

@@ -23,7 +23,8 @@ numberOf R.State = 14
 numberOf R.Scans = 15
 numberOf (R.Field p) = 16
 
--- "The place is the least failing row, from 0."; where 01's table says 0 it is 0
+-- "The place is the least failing row, from 0."; where 01's table says 0 it is 0; ROOM carries the length needed, TEXT
+-- its byte or word (Places.antt of format)
 abbrev pub placeOf : Refusal → ℕ
 placeOf R.Size = 0
 placeOf (R.Hierarchy p) = p

@@ -3,7 +3,7 @@ use Prim.Native.Nat.{ℕ, zero, suc, _+_}
 use mathlib.Core.Bool.{Bool, true, false, not, cond}
 use mathlib.Core.List.{List, [], _∷_}
 
--- the least of them that passes, or i + n
+-- the least of them that passes, or i + n if none does: the users say what that number means to them
 unfoldable pub least : (ℕ → Bool) → ℕ → ℕ → ℕ
 least p i zero = i
 least p i (suc n) = elim (p i) [ true ↦ i | false ↦ least p (suc i) n ]
@@ -26,3 +26,7 @@ count p (suc n) = count p n + cond (p n) 1 0
 unfoldable pub table : {A : Type 0} → (ℕ → A) → ℕ → ℕ → List A
 table f i zero = []
 table f i (suc n) = f i ∷ table f (suc i) n
+
+-- the largest number of 64 bits: how far lengths, places and counts go
+abbrev pub most64 : ℕ
+most64 = 18446744073709551615

@@ -1,4 +1,6 @@
--- The rules that a chart's tables must keep, one record a rule, in document 01's words. The tests of Check.antt are proved equal to them in RuleLaws.antt: for any tables, OVERLAP where LITERAL passes.
+-- The rules that a chart's tables must keep, one record a rule, in document 01's words: this is what a reader holds
+-- against the document. The tests of Check.antt, which the verdict is computed by, are proved equal to these rules in
+-- Laws/Rules.antt: for any tables, OVERLAP where LITERAL passes.
 use mathlib.Core.Path.{_≡_}
 use mathlib.Core.Logic.{_≢_, _⊎_}
 use Prim.Native.Nat.{ℕ, suc, _%_, _≤_, _<_}
@@ -6,15 +8,18 @@ use mathlib.Core.Bool.{true}
 use mathlib.Core.List.{List}
 use lib.ListN.{length}
 use lib.IntN.{ℤ, pos, natAbs}
-use Rattle.meaning.specs.Tables.{Tables, mostStates, mostDepth, mostMoves, mostInputs, mostOutputs, mostTimers, mostFlipFlops, mostPairs, mostStep, mostPreset, stateRow, moveRow, pairRow, literalPlaces}
-use Rattle.meaning.specs.Tables.{stateCount, moveCount, timerCount, pairCount, superState, initial, cell, source, target, literal, preset, pairNumber, pairState}
+use Rattle.meaning.specs.Tables.{Tables, mostStates, mostDepth, mostMoves, mostInputs, mostOutputs, mostTimers}
+use Rattle.meaning.specs.Tables.{mostFlipFlops, mostPairs, mostScanStep, mostPreset, stateRow, moveRow, pairRow}
+use Rattle.meaning.specs.Tables.{literalPlaces}
+use Rattle.meaning.specs.Tables.{stateCount, moveCount, timerCount, pairCount, superState, initial, cell, source}
+use Rattle.meaning.specs.Tables.{target, literal, preset, pairNumber, pairState}
 use Rattle.meaning.specs.Hierarchy.{up}
-use Rattle.meaning.specs.Layout.{flipFlops}
+use Rattle.meaning.specs.Layout.{flipFlopCount}
 use Rattle.meaning.specs.Literals.{Setting, kindOf, literalsHold}
 use Rattle.meaning.specs.declared.Kind.{Kind}
 use Rattle.meaning.specs.declared.Kind.the-variants.{Unused, Input, Timer, Unknown}
 
--- a is at or above s: repeated super-states lead from s to a
+-- a is at or above s: super-states, taken 0 to 8 times, lead from s to a; where HIERARCHY passes these are all
 abbrev pub AtOrAbove : Tables → ℕ → ℕ → Type 0
 AtOrAbove c a s = (k : ℕ) × (k ≤ mostDepth) × (up c k s ≡ a)
 
@@ -27,7 +32,7 @@ abbrev pub Leaf : Tables → ℕ → Type 0
 Leaf c s = (t : ℕ) → SubState c s t → ⊥
 
 -- a paired state is at or above the leaf l
-pub record Runs (c : Tables) (t l : ℕ) : Type 0 where
+pub record TimerRuns (c : Tables) (t l : ℕ) : Type 0 where
   pub row : ℕ
   pub known : row < pairCount (c .timerPairs)
   pub timer : pairNumber (c .timerPairs) row ≡ t
@@ -47,10 +52,11 @@ pub record SizeRule (c : Tables) : Type 0 where
   pub fewOutputPairs : pairCount (c .outputPairs) ≤ mostPairs
   pub fewInputs : c .inputs ≤ mostInputs
   pub fewOutputs : c .outputs ≤ mostOutputs
-  pub someStep : 1 ≤ c .step
-  pub smallStep : c .step ≤ mostStep
+  pub someStep : 1 ≤ c .scanStep
+  pub smallStep : c .scanStep ≤ mostScanStep
 
--- 2 HIERARCHY: "State 0 is the root, with super-state 0"; "Every other super-state has a smaller number than its sub-state"; depth at most 8
+-- 2 HIERARCHY: "State 0 is the root, with super-state 0"; "Every other super-state has a smaller number than its
+-- sub-state"; depth at most 8
 pub record HierarchyRule (c : Tables) (s : ℕ) : Type 0 where
   pub root : s ≡ 0 → superState c s ≡ 0
   pub smaller : s ≢ 0 → superState c s < s
@@ -66,12 +72,14 @@ pub record PresetRule (c : Tables) (i : ℕ) : Type 0 where
   pub low : 1 ≤ preset c (suc i)
   pub high : preset c (suc i) ≤ mostPreset
 
--- 5 TIMER PAIR and 6 OUTPUT PAIR, over how many timers or outputs there are: "unknown timer or state, or not above the pair before"
+-- 5 TIMER PAIR and 6 OUTPUT PAIR, over how many timers or outputs there are: "unknown timer or state, or not above
+-- the pair before"
 pub record PairRule (c : Tables) (many : ℕ) (ps : List ℕ) (i : ℕ) : Type 0 where
   pub low : 1 ≤ pairNumber ps i
   pub high : pairNumber ps i ≤ many
   pub state : pairState ps i < stateCount c
-  pub ascending : (j : ℕ) → suc j ≡ i → (pairNumber ps j < pairNumber ps i) ⊎ ((pairNumber ps j ≡ pairNumber ps i) × (pairState ps j < pairState ps i))
+  pub ascending : (j : ℕ) → suc j ≡ i
+      → (pairNumber ps j < pairNumber ps i) ⊎ ((pairNumber ps j ≡ pairNumber ps i) × (pairState ps j < pairState ps i))
 
 -- a number of the moves table that names a state
 abbrev pub KnownState : Tables → ℤ → Type 0
@@ -89,18 +97,21 @@ WithinCounts c (Input i) = i ≤ c .inputs
 WithinCounts c (Timer t) = t ≤ timerCount c
 WithinCounts c Unknown = ⊥
 
--- 8 LITERAL: "0 is an unused place, and only 0 follows it. No input or timer stands twice in a move."; "or beyond the counts"
+-- 8 LITERAL: "0 is an unused place, and only 0 follows it. No input or timer stands twice in a move."; "or beyond the
+-- counts"
 pub record LiteralRule (c : Tables) (i : ℕ) : Type 0 where
   pub known : (j : ℕ) → j < literalPlaces → WithinCounts c (kindOf (natAbs (literal c i j)))
   pub onlyZero : (j k : ℕ) → j < k → k < literalPlaces → literal c i j ≡ pos 0 → literal c i k ≡ pos 0
-  pub once : (j k : ℕ) → j < k → k < literalPlaces → literal c i k ≢ pos 0 → natAbs (literal c i j) ≢ natAbs (literal c i k)
+  pub once : (j k : ℕ) → j < k → k < literalPlaces → literal c i k ≢ pos 0
+      → natAbs (literal c i j) ≢ natAbs (literal c i k)
 
 -- 9 IDLE TIMER, kept: "timer literal, but some leaf at or below the source doesn't run it"
 pub record IdleRule (c : Tables) (i : ℕ) : Type 0 where
   pub run : (j t : ℕ) → j < literalPlaces → kindOf (natAbs (literal c i j)) ≡ Timer t
-      → (l : ℕ) → l < stateCount c → Leaf c l → AtOrAbove c (source c i) l → Runs c t l
+      → (l : ℕ) → l < stateCount c → Leaf c l → AtOrAbove c (source c i) l → TimerRuns c t l
 
--- "Two moves overlap when one source is at or above the other and some setting of inputs and of timers, taken as free, makes both enabled."
+-- "Two moves overlap when one source is at or above the other and some setting of inputs and of timers, taken as
+-- free, makes both enabled."
 pub record Overlap (c : Tables) (i j : ℕ) : Type 0 where
   pub near : AtOrAbove c (source c i) (source c j) ⊎ AtOrAbove c (source c j) (source c i)
   pub setting : Setting
@@ -113,7 +124,7 @@ pub record OverlapRule (c : Tables) (i : ℕ) : Type 0 where
 
 -- 11 FLIP-FLOPS: "more than 128"
 pub record FlipFlopRule (c : Tables) : Type 0 where
-  pub few : flipFlops c ≤ mostFlipFlops
+  pub few : flipFlopCount c ≤ mostFlipFlops
 
 -- all of them, at every row
 pub record Rules (c : Tables) : Type 0 where

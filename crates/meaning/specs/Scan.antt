@@ -20,40 +20,50 @@ pub record Controller : Type 0 where
   pub flipFlops : List ℕ
   pub blocks : List Block
 
--- a controller within a scan: the result, what brackets have put aside, the time loaded last, and the outputs from %QX1 on
-pub record Within : Type 0 where
+-- a controller in the middle of a scan: the result, what brackets have deferred, the time loaded last, and the outputs
+-- from %QX1 on
+pub record MidScan : Type 0 where
   pub result : Bool
-  pub aside : List Bool
+  pub deferred : List Bool
   pub time : ℕ
   pub controller : Controller
   pub outputs : List Bool
 
+-- a block that was never called: `input` is IN, `last` the IN of its last call
 abbrev pub blank : Block
-blank = record { on = false; pt = 0; et = 0; q = false; last = false }
+blank = record { input = false; pt = 0; et = 0; q = false; last = false }
 
+-- blocks count from 1, and block 0 is never asked
 unfoldable pub blockAt : List Block → ℕ → Block
 blockAt bs n = getD bs (n - 1) blank
 
-unfoldable pub changed : List Block → ℕ → (Block → Block) → List Block
-changed bs n f = set bs (n - 1) (f (blockAt bs n))
+unfoldable pub blockChanged : List Block → ℕ → (Block → Block) → List Block
+blockChanged bs n f = set bs (n - 1) (f (blockAt bs n))
 
--- "IN off gives ET 0, Q off; IN on after off gives ET 0; IN on after on adds one scan step, up to PT; Q when ET reaches PT"
+-- "IN off gives ET 0, Q off; IN on after off gives ET 0; IN on after on adds one scan step, up to PT; Q when ET
+-- reaches PT"
 unfoldable pub elapsed : ℕ → Block → ℕ
-elapsed d b = cond (b .on && b .last) (min (b .et + d) (b .pt)) 0
+elapsed d b = cond (b .input && b .last) (min (b .et + d) (b .pt)) 0
 
 unfoldable pub ton : ℕ → Block → Block
-ton d b = record { on = b .on; pt = b .pt; et = elapsed d b; q = b .on && leb (b .pt) (elapsed d b); last = b .on }
+ton d b = record {
+  input = b .input;
+  pt = b .pt;
+  et = elapsed d b;
+  q = b .input && leb (b .pt) (elapsed d b);
+  last = b .input;
+}
 
 unfoldable pub withIn : Bool → Block → Block
-withIn v b = record { on = v; pt = b .pt; et = b .et; q = b .q; last = b .last }
+withIn v b = record { input = v; pt = b .pt; et = b .et; q = b .q; last = b .last }
 
 unfoldable pub withPt : ℕ → Block → Block
-withPt v b = record { on = b .on; pt = v; et = b .et; q = b .q; last = b .last }
+withPt v b = record { input = b .input; pt = v; et = b .et; q = b .q; last = b .last }
 
 unfoldable pub flipFlopOn : List ℕ → ℕ → Bool
 flipFlopOn fs n = eqb (getD fs n 0) 1
 
--- what a test reads, under the input word x
+-- what a test reads, under the input word x; no accepted program tests %QX, Tn.IN, Tn.PT or Tn
 unfoldable pub valueOf : ℕ → Controller → Operand → Bool
 valueOf x k (Mx n) = flipFlopOn (k .flipFlops) n
 valueOf x k (Ix n) = inputOn x n
@@ -65,75 +75,110 @@ valueOf x k (Timer n) = false
 valueOf x k False = false
 valueOf x k True = true
 
-unfoldable pub withFlipFlops : List ℕ → Within → Within
-withFlipFlops fs w = record { result = w .result; aside = w .aside; time = w .time; outputs = w .outputs; controller = record { flipFlops = fs; blocks = w .controller .blocks } }
-
-unfoldable pub withBlock : ℕ → (Block → Block) → Within → Within
-withBlock n f w = record {
+unfoldable pub withFlipFlops : List ℕ → MidScan → MidScan
+withFlipFlops fs w = record {
   result = w .result;
-  aside = w .aside;
+  deferred = w .deferred;
   time = w .time;
   outputs = w .outputs;
-  controller = record { flipFlops = w .controller .flipFlops; blocks = changed (w .controller .blocks) n f };
+  controller = record { flipFlops = fs; blocks = w .controller .blocks };
 }
 
-unfoldable pub withOutputs : List Bool → Within → Within
-withOutputs os w = record { result = w .result; aside = w .aside; time = w .time; outputs = os; controller = w .controller }
+unfoldable pub withBlock : ℕ → (Block → Block) → MidScan → MidScan
+withBlock n f w = record {
+  result = w .result;
+  deferred = w .deferred;
+  time = w .time;
+  outputs = w .outputs;
+  controller = record { flipFlops = w .controller .flipFlops; blocks = blockChanged (w .controller .blocks) n f };
+}
+
+unfoldable pub withOutputs : List Bool → MidScan → MidScan
+withOutputs os w = record {
+  result = w .result;
+  deferred = w .deferred;
+  time = w .time;
+  outputs = os;
+  controller = w .controller;
+}
 
 -- v stored to an operand; Tn.PT takes the time
-unfoldable pub stored : Bool → Operand → Within → Within
-stored v (Mx n) w = withFlipFlops (set (w .controller .flipFlops) n (cond v 1 0)) w
-stored v (Ix n) w = w
-stored v (Qx n) w = withOutputs (set (w .outputs) (n - 1) v) w
-stored v (TimerQ n) w = w
-stored v (TimerIn n) w = withBlock n (withIn v) w
-stored v (TimerPt n) w = withBlock n (withPt (w .time)) w
-stored v (Timer n) w = w
-stored v False w = w
-stored v True w = w
+unfoldable pub storedIn : Bool → Operand → MidScan → MidScan
+storedIn v (Mx n) w = withFlipFlops (set (w .controller .flipFlops) n (cond v 1 0)) w
+storedIn v (Ix n) w = w
+storedIn v (Qx n) w = withOutputs (set (w .outputs) (n - 1) v) w
+storedIn v (TimerQ n) w = w
+storedIn v (TimerIn n) w = withBlock n (withIn v) w
+storedIn v (TimerPt n) w = withBlock n (withPt (w .time)) w
+storedIn v (Timer n) w = w
+storedIn v False w = w
+storedIn v True w = w
 
-unfoldable pub called : ℕ → Operand → Within → Within
-called d (Mx n) w = w
-called d (Ix n) w = w
-called d (Qx n) w = w
-called d (TimerQ n) w = w
-called d (TimerIn n) w = w
-called d (TimerPt n) w = w
-called d (Timer n) w = withBlock n (ton d) w
-called d False w = w
-called d True w = w
+unfoldable pub blockCalled : ℕ → Operand → MidScan → MidScan
+blockCalled d (Mx n) w = w
+blockCalled d (Ix n) w = w
+blockCalled d (Qx n) w = w
+blockCalled d (TimerQ n) w = w
+blockCalled d (TimerIn n) w = w
+blockCalled d (TimerPt n) w = w
+blockCalled d (Timer n) w = withBlock n (ton d) w
+blockCalled d False w = w
+blockCalled d True w = w
 
-unfoldable pub withResult : Bool → Within → Within
-withResult v w = record { result = v; aside = w .aside; time = w .time; controller = w .controller; outputs = w .outputs }
+unfoldable pub withResult : Bool → MidScan → MidScan
+withResult v w = record {
+  result = v;
+  deferred = w .deferred;
+  time = w .time;
+  controller = w .controller;
+  outputs = w .outputs;
+}
 
--- one instruction, with the scan step d and the input word x: "IL runs left to right without precedence. S and R act only on a true result."
-unfoldable pub executed : ℕ → ℕ → Operator → Within → Within
+-- another result, with other values deferred
+abbrev pub withDeferred : Bool → List Bool → MidScan → MidScan
+withDeferred v ds w = record {
+  result = v;
+  deferred = ds;
+  time = w .time;
+  controller = w .controller;
+  outputs = w .outputs;
+}
+
+-- one instruction, with the scan step d and the input word x: "IL runs left to right without precedence. S and R act
+-- only on a true result."
+unfoldable pub executed : ℕ → ℕ → Operator → MidScan → MidScan
 executed d x (Ld o) w = withResult (valueOf x (w .controller) o) w
 executed d x (Ldn o) w = withResult (not (valueOf x (w .controller) o)) w
 executed d x (And o) w = withResult (w .result && valueOf x (w .controller) o) w
 executed d x (Andn o) w = withResult (w .result && not (valueOf x (w .controller) o)) w
-executed d x Or w = record { result = w .result; aside = w .result ∷ w .aside; time = w .time; controller = w .controller; outputs = w .outputs }
-executed d x Close w = record { result = headD (w .aside) false || w .result; aside = drop 1 (w .aside); time = w .time; controller = w .controller; outputs = w .outputs }
-executed d x (St o) w = stored (w .result) o w
-executed d x (S o) w = cond (w .result) (stored true o w) w
-executed d x (R o) w = cond (w .result) (stored false o w) w
-executed d x (Cal o) w = called d o w
-executed d x (LdTime n) w = record { result = w .result; aside = w .aside; time = n; controller = w .controller; outputs = w .outputs }
+executed d x Or w = withDeferred (w .result) (w .result ∷ w .deferred) w
+executed d x Close w = withDeferred (headD (w .deferred) false || w .result) (drop 1 (w .deferred)) w
+executed d x (St o) w = storedIn (w .result) o w
+executed d x (S o) w = cond (w .result) (storedIn true o w) w
+executed d x (R o) w = cond (w .result) (storedIn false o w) w
+executed d x (Cal o) w = blockCalled d o w
+executed d x (LdTime n) w = record {
+  result = w .result;
+  deferred = w .deferred;
+  time = n;
+  controller = w .controller;
+  outputs = w .outputs;
+}
 
-unfoldable pub executedAll : ℕ → ℕ → List Operator → Within → Within
+unfoldable pub executedAll : ℕ → ℕ → List Operator → MidScan → MidScan
 executedAll d x [] w = w
 executedAll d x (i ∷ is) w = executedAll d x is (executed d x i w)
 
 -- "an output the program never stores is off"
-unfoldable pub begun : Controller → Within
-begun k = record { result = false; aside = []; time = 0; controller = k; outputs = replicate mostOutputs false }
+unfoldable pub scanBegun : Controller → MidScan
+scanBegun k = record { result = false; deferred = []; time = 0; controller = k; outputs = replicate mostOutputs false }
 
 -- the controller after a scan, and the output word
 unfoldable pub scanned : ℕ → ℕ → List Operator → Controller → Controller
-scanned d x is k = (executedAll d x is (begun k)) .controller
+scanned d x is k = (executedAll d x is (scanBegun k)) .controller
 
 unfoldable pub outputWord : ℕ → ℕ → List Operator → Controller → ℕ
-outputWord d x is k = wordOf ((executedAll d x is (begun k)) .outputs)
+outputWord d x is k = wordOf ((executedAll d x is (scanBegun k)) .outputs)
 
 -- the output word after each scan, and the controller after the last
 unfoldable pub outputTrace : ℕ → List Operator → Controller → List ℕ → List ℕ
@@ -146,11 +191,17 @@ scannedAll d is k (x ∷ xs) = scannedAll d is (scanned d x is k) xs
 
 -- "All zero is the start."
 unfoldable pub cleared : Program → Controller
-cleared p = record { flipFlops = replicate (flipFlopBytes (instructions p)) 0; blocks = replicate (length (p .timers)) blank }
+cleared p = record {
+  flipFlops = replicate (flipFlopBytes (instructions p)) 0;
+  blocks = replicate (length (p .timers)) blank;
+}
 
--- 14 STATE is given for a lent controller that is not valid: "byte not 0 or 1, flip-flop bytes not one more than the highest %MX the program names (0 if none), blocks not as many as declared, block with ET above its rung's time"
+-- 14 STATE is given for a lent controller that is not valid: "byte not 0 or 1, flip-flop bytes not one more than the
+-- highest %MX the program names (0 if none), blocks not as many as declared, block with ET above its rung's time"
 pub record ValidController (p : Program) (k : Controller) : Type 0 where
   pub bits : (b : ℕ) → b < length (k .flipFlops) → getD (k .flipFlops) b 0 ≤ 1
   pub size : length (k .flipFlops) ≡ flipFlopBytes (instructions p)
   pub blocks : length (k .blocks) ≡ length (p .timers)
-  pub times : (t : ℕ) (r : TimerRung) → t < length (p .timers) → (getD (k .blocks) t blank) .et ≤ (getD (p .timers) t r) .time
+  -- of block i + 1; r would stand where there is no rung, and none is missing
+  pub times : (i : ℕ) (r : TimerRung) → i < length (p .timers)
+      → (getD (k .blocks) i blank) .et ≤ (getD (p .timers) i r) .time

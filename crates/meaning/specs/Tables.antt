@@ -5,7 +5,7 @@ use lib.ListN.{length, getD}
 use lib.IntN.{ℤ, pos, natAbs}
 
 pub record Tables : Type 0 where
-  pub step : ℕ
+  pub scanStep : ℕ
   pub inputs : ℕ
   pub outputs : ℕ
   pub states : List ℕ
@@ -39,8 +39,8 @@ mostFlipFlops = 128
 abbrev pub mostPairs : ℕ
 mostPairs = 2048
 
-abbrev pub mostStep : ℕ
-mostStep = 1000
+abbrev pub mostScanStep : ℕ
+mostScanStep = 1000
 
 abbrev pub mostPreset : ℕ
 mostPreset = 86400000
@@ -82,6 +82,7 @@ initial c s = getD (c .states) (stateRow * s + 1) 0
 unfoldable pub cell : Tables → ℕ → ℕ → ℤ
 cell c i j = getD (c .moves) (moveRow * i + j) (pos 0)
 
+-- as sizes: -1 reads as 1 here, and MOVE, which asks the cells themselves, refuses it
 unfoldable pub source : Tables → ℕ → ℕ
 source c i = natAbs (cell c i 0)
 
@@ -94,7 +95,7 @@ mark c i = natAbs (cell c i 2)
 unfoldable pub literal : Tables → ℕ → ℕ → ℤ
 literal c i j = cell c i (3 + j)
 
--- "Presets: one 32-bit number a timer. Timers count from 1."
+-- "Presets: one 32-bit number a timer. Timers count from 1.": timer 0 is never asked
 unfoldable pub preset : Tables → ℕ → ℕ
 preset c t = getD (c .presets) (t - 1) 0
 
@@ -106,5 +107,5 @@ unfoldable pub pairState : List ℕ → ℕ → ℕ
 pairState ps i = getD ps (pairRow * i + 1) 0
 
 -- "N the preset divided by the scan step, rounded up"
-unfoldable pub steps : Tables → ℕ → ℕ
-steps c t = (preset c t + c .step - 1) / c .step
+unfoldable pub presetSteps : Tables → ℕ → ℕ
+presetSteps c t = (preset c t + c .scanStep - 1) / c .scanStep

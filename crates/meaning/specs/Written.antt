@@ -5,9 +5,10 @@ use mathlib.Core.List.{List, [], _∷_, _++_, map, flatMap}
 use lib.Dec.{eqb}
 use lib.IntN.{natAbs}
 use Rattle.meaning.specs.Rows.{table}
-use Rattle.meaning.specs.Tables.{Tables, mostDepth, literalPlaces, moveCount, timerCount, pairCount, superState, initial, source, target, mark, literal, preset, pairNumber, pairState}
-use Rattle.meaning.specs.Hierarchy.{depth, leaf}
-use Rattle.meaning.specs.Layout.{groupWidth, groupFirst, flipFlops, code}
+use Rattle.meaning.specs.Tables.{Tables, mostDepth, literalPlaces, moveCount, timerCount, pairCount, superState}
+use Rattle.meaning.specs.Tables.{initial, source, target, mark, literal, preset, pairNumber, pairState}
+use Rattle.meaning.specs.Hierarchy.{depth, isLeaf}
+use Rattle.meaning.specs.Layout.{groupWidth, groupFirst, flipFlopCount, code}
 use Rattle.meaning.specs.Literals.{kindOf, wanted}
 use Rattle.meaning.specs.Programs.{Test, Chain, also, bracket, Body, Rung, TimerRung, Program}
 use Rattle.meaning.specs.declared.Kind.{Kind}
@@ -23,7 +24,7 @@ flipFlop c b = Mx b
 
 -- "With B flip-flops, the working copy of %MXb is %MX(B + b)"
 abbrev pub workingCopy : Tables → ℕ → Operand
-workingCopy c b = Mx (flipFlops c + b)
+workingCopy c b = Mx (flipFlopCount c + b)
 
 abbrev pub timerQ : Tables → ℕ → Operand
 timerQ c t = TimerQ t
@@ -52,6 +53,7 @@ bitTest c w b = record { wanted = w; operand = flipFlop c b }
 unfoldable pub stateTests : Tables → ℕ → List Test
 stateTests c s = pathBits c (bitTest c) (depth c s) s
 
+-- the test of a literal; Unknown is never asked, LITERAL refuses it first
 unfoldable pub kindTest : Tables → Bool → Kind → List Test
 kindTest c w K.Unused = []
 kindTest c w (K.Input i) = record { wanted = w; operand = Ix i } ∷ []
@@ -70,14 +72,18 @@ chain (t ∷ ts) = record { first = t; more = ts }
 -- "Each further state of an OR: OR( on its own line, its lines, ) on its own line. No states: LD FALSE."
 unfoldable pub orBody : List (List Test) → Body
 orBody [] = record { first = record { wanted = true; operand = False }; parts = [] }
-orBody (ts ∷ tss) = record { first = (chain ts) .first; parts = map also ((chain ts) .more) ++ map (λ us. bracket (chain us)) tss }
+orBody (ts ∷ tss) = record {
+  first = (chain ts) .first;
+  parts = map also ((chain ts) .more) ++ map (λ us. bracket (chain us)) tss;
+}
 
 unfoldable pub andBody : List Test → Body
 andBody ts = orBody (ts ∷ [])
 
 -- the states paired with n, in the order of the pairs
 unfoldable pub pairStates : List ℕ → ℕ → List ℕ
-pairStates ps n = flatMap (λ i. cond (eqb (pairNumber ps i) n) (pairState ps i ∷ []) []) (table (λ i. i) 0 (pairCount ps))
+pairStates ps n =
+    flatMap (λ i. cond (eqb (pairNumber ps i) n) (pairState ps i ∷ []) []) (table (λ i. i) 0 (pairCount ps))
 
 unfoldable pub pairsBody : Tables → List ℕ → ℕ → Body
 pairsBody c ps n = orBody (map (stateTests c) (pairStates ps n))
@@ -93,7 +99,8 @@ bitStore c w b = cond w (S (workingCopy c b)) (R (workingCopy c b))
 -- the groups of t, "if a super-state, and those reached below it by initial sub-states", k levels at most
 unfoldable pub initialStores : Tables → ℕ → ℕ → List Operator
 initialStores c zero t = []
-initialStores c (suc k) t = cond (leaf c t) [] (groupBits c (bitStore c) t (initial c t) ++ initialStores c k (initial c t))
+initialStores c (suc k) t =
+    cond (isLeaf c t) [] (groupBits c (bitStore c) t (initial c t) ++ initialStores c k (initial c t))
 
 -- at and below the target mark 0 sets the initial path, mark 1 nothing
 unfoldable pub storesFrom : Tables → ℕ → ℕ → List Operator
@@ -125,5 +132,6 @@ unfoldable pub program : Tables → Program
 program c = record {
   timers = table (timerRung c) 1 (timerCount c);
   rungs = flatMap (moveRungs c) (table (λ i. i) 0 (moveCount c))
-      ++ (flatMap (copyRungs c) (table (λ b. b) 0 (flipFlops c)) ++ flatMap (outputRungs c) (table (λ o. o) 1 (c .outputs)));
+      ++ (flatMap (copyRungs c) (table (λ b. b) 0 (flipFlopCount c))
+      ++ flatMap (outputRungs c) (table (λ o. o) 1 (c .outputs)));
 }

@@ -1,4 +1,5 @@
-// The declared types that the definitions in specs/ and the promises of the calls speak of, and a refusal's number and place.
+// The declared types that the definitions in specs/ and the promises of the calls speak of, and a refusal's number
+// and place.
 ghost use mathlib.Core.Path.{_≡_};
 ghost use Rattle.meaning.specs.Refusals.{numberOf, placeOf};
 
@@ -70,10 +71,10 @@ pub enum Operator {
     LdTime(u32),
 }
 
-// A timer block: IN, PT, ET, Q and the IN of its last call.
+// A timer block: IN (`input`, since `in` is a word of the language), PT, ET, Q and the IN of its last call.
 #[repr(C)]
 pub struct Block {
-    pub on: bool,
+    pub input: bool,
     pub pt: u32,
     pub et: u32,
     pub q: bool,

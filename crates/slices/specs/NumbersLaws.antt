@@ -6,7 +6,7 @@ use lib.Bits.{bitOr}
 use lib.Dec.{eqb}
 use borrow.Author.Tests.{le-leb}
 use Rattle.meaning.specs.Literals.{inputOn}
-use Rattle.meaning.specs.BitLaws.{number-bit}
+use Rattle.meaning.specs.Laws.Bits.{number-bit}
 use Rattle.slices.specs.Numbers.{withNumber}
 
 -- a number that a word has a bit for

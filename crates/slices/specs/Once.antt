@@ -4,7 +4,8 @@ use mathlib.Core.List.{List}
 use Prim.Native.Nat.{ℕ, min}
 use lib.ListN.{getD, set}
 use lib.IntN.{ℤ}
-use Rattle.meaning.specs.Once.{Once, is-once}
+use Rattle.meaning.specs.Once.{Once}
+use Rattle.meaning.specs.Laws.Once.{is-once}
 use Rattle.slices.specs.Numbers.{withNumber}
 
 pub number-once : (l : List ℕ) (i : ℕ) → Once (λ r. r ≡ getD l i 0)

@@ -1,12 +1,12 @@
-// The program: reads the seven files of a folder, the one that its argument names or else the one that it is started in,
-// and prints what the library `printing` makes of them. Every byte on standard output comes from there.
+// The program: reads the seven files of a folder, the one that its argument names or else the one that it is started
+// in, and prints what the library `printing` makes of them. Every byte on standard output comes from there.
 mod message;
 
-use files::Answers;
+use csv_cursor::Reader;
+use csv_records::RecordsAnswer;
+use csv_tables::Answers;
 use libc::STDOUT_FILENO;
 use meaning::Verdict;
-use passing::Reader;
-use records::Answer;
 
 // What a read of a file came to.
 enum Turn {
@@ -18,20 +18,20 @@ enum Turn {
 // What the reader of a file answered, if the file could be read.
 struct Loaded {
     read: bool,
-    answer: Answer,
+    answer: RecordsAnswer,
 }
 
 fn failed() -> Loaded {
     Loaded {
         read: false,
-        answer: Answer::Rows(0),
+        answer: RecordsAnswer::Rows(0),
     }
 }
 
 fn answered(r: Reader, out: &mut [u64]) -> Loaded {
     Loaded {
         read: true,
-        answer: records::finish(r, out),
+        answer: csv_records::finish(r, out),
     }
 }
 
@@ -47,10 +47,11 @@ fn feed_piece(fd: i32, path: &[u8], r: Reader, out: &mut [u64]) -> Turn {
         return Turn::End(r);
     }
     let n = io::count(got, &piece);
-    Turn::More(records::feed(r, &piece[..n], out))
+    Turn::More(csv_records::feed(r, &piece[..n], out))
 }
 
-// The file in pieces to its end. A proved loop has to end, so it counts its turns down from a number that no run uses up.
+// The file in pieces to its end. A proved loop has to end, so it counts its turns down from a number that no run uses
+// up.
 fn feed_all(fd: i32, path: &[u8], r: Reader, out: &mut [u64]) -> Turn {
     let mut s = r;
     let mut turns = u64::MAX;
@@ -110,9 +111,9 @@ fn load(before: bool, folder: &[u8], name: &[u8], r: Reader, out: &mut [u64]) ->
         return failed();
     }
     let mut path = [0u8; 8192];
-    let p = lines::put_bytes(&mut path, 0, folder);
-    let q = lines::put(&mut path, p, b'/');
-    let n = lines::put_bytes(&mut path, q, name);
+    let p = write_lines::put_bytes(&mut path, 0, folder);
+    let q = write_lines::put(&mut path, p, b'/');
+    let n = write_lines::put_bytes(&mut path, q, name);
     load_in(&path, n, r, out)
 }
 
@@ -142,7 +143,7 @@ fn show(
 ) {
     // More than the most that is printed (`mostPrinted` in printing/specs/Lengths.antt).
     let mut out = [0u8; 327680];
-    let p = printing::print(
+    let p = print_text::print(
         answers,
         frame,
         states,
@@ -167,10 +168,10 @@ fn show(
 // What the readers of the first four files answered, if these could be read.
 struct First {
     read: bool,
-    frame: Answer,
-    states: Answer,
-    moves: Answer,
-    presets: Answer,
+    frame: RecordsAnswer,
+    states: RecordsAnswer,
+    moves: RecordsAnswer,
+    presets: RecordsAnswer,
 }
 
 enum LoadedAll {

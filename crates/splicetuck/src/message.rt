@@ -1,8 +1,8 @@
 // What goes to standard error: one line in words.
-use files::Answers;
+use csv_records::RecordsAnswer;
+use csv_tables::Answers;
 use libc::STDERR_FILENO;
 use meaning::Refusal;
-use records::Answer;
 
 pub fn say(text: &[u8]) {
     io::write_all(STDERR_FILENO, text);
@@ -62,10 +62,10 @@ fn print_record(file: u32, record: usize) {
 }
 
 // That file, if its reader refused it.
-fn or_else(a: Answer, file: u32, later: u32) -> u32 {
+fn or_else(a: RecordsAnswer, file: u32, later: u32) -> u32 {
     match a {
-        Answer::Rows(_) => later,
-        Answer::Refused(_) => file,
+        RecordsAnswer::Rows(_) => later,
+        RecordsAnswer::Refused(_) => file,
     }
 }
 

@@ -10,7 +10,7 @@ use Rattle.tables.specs.declared.Chart.{Chart}
 -- the tables of a chart, as they are lent
 abbrev pub tablesOf : Chart → List ℕ → List ℤ → List ℕ → List ℕ → List ℕ → Tables
 tablesOf chart states moves presets timerPairs outputPairs = record {
-  step = chart .step;
+  scanStep = chart .step;
   inputs = chart .inputs;
   outputs = chart .outputs;
   states = states;

@@ -4,9 +4,10 @@ use mathlib.Core.List.{List}
 use Prim.Native.Nat.{ℕ}
 use lib.ListN.{replicate}
 use lib.IntN.{ℤ, natAbs}
-use Rattle.meaning.specs.Once.{Once, is-once, states-once, moves-once}
+use Rattle.meaning.specs.Once.{Once}
+use Rattle.meaning.specs.Laws.Once.{is-once, states-once, moves-once}
 use Rattle.meaning.specs.Tables.{Tables, superState, initial, pairNumber, pairState, cell, source, target, mark, literal}
-use Rattle.meaning.specs.Hierarchy.{depth, subState, leaf}
+use Rattle.meaning.specs.Hierarchy.{depth, subState, isLeaf}
 use Rattle.meaning.specs.Literals.{kindOf, wanted}
 
 pub cleared-once : Once {A = List ℕ} (λ r. r ≡ replicate 288 0)
@@ -48,8 +49,8 @@ literal-once ms i j = moves-once (λ c. literal c i j) ms
 pub sub-state-once : (ss : List ℕ) (a s : ℕ) → Once (λ r. (c : Tables) → c .states ≡ ss → r ≡ subState c a s)
 sub-state-once ss a s = states-once (λ c. subState c a s) ss
 
-pub leaf-once : (ss : List ℕ) (s : ℕ) → Once (λ r. (c : Tables) → c .states ≡ ss → r ≡ leaf c s)
-leaf-once ss s = states-once (λ c. leaf c s) ss
+pub leaf-once : (ss : List ℕ) (s : ℕ) → Once (λ r. (c : Tables) → c .states ≡ ss → r ≡ isLeaf c s)
+leaf-once ss s = states-once (λ c. isLeaf c s) ss
 
 pub depth-once : (ss : List ℕ) (s : ℕ) → Once (λ r. (c : Tables) → c .states ≡ ss → r ≡ depth c s)
 depth-once ss s = states-once (λ c. depth c s) ss

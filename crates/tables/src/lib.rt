@@ -4,8 +4,9 @@ ghost use mathlib.Core.Path.{_≡_};
 ghost use Prim.Native.Nat.{_+_, _*_};
 ghost use lib.ListN.{getD, replicate};
 ghost use lib.IntN.{natAbs};
-ghost use Rattle.meaning.specs.Tables.{Tables, superState, initial, pairNumber, pairState, cell, source, target, mark, literal};
-ghost use Rattle.meaning.specs.Hierarchy.{depth, subState, subStates, leaf};
+ghost use Rattle.meaning.specs.Tables.{Tables, superState, initial, pairNumber, pairState, cell, source, target, mark};
+ghost use Rattle.meaning.specs.Tables.{literal};
+ghost use Rattle.meaning.specs.Hierarchy.{depth, subState, subStates, isLeaf};
 ghost use Rattle.meaning.specs.Literals.{kindOf, wanted};
 
 // The frame of a chart: its scan step in ms, and how many inputs and outputs it has.
@@ -209,7 +210,7 @@ fn sub_states(states: &[u16], a: usize) -> usize
 
 // "A state without sub-states is a leaf"
 pub fn leaf(states: &[u16], s: usize) -> bool
-    ensures { λ r. ⌜ ((c : Tables) → c .states ≡ now (states .entry) → r ≡ leaf c s) ⌝ }
+    ensures { λ r. ⌜ ((c : Tables) → c .states ≡ now (states .entry) → r ≡ isLeaf c s) ⌝ }
 {
     sub_states(states, s) == 0
 }

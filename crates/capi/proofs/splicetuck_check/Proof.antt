@@ -3,8 +3,8 @@ use Rattle.capi.proofs.splicetuck_check.Statement.{statement}
 use Rattle.capi.proofs.splicetuck_check.Tie as tie
 use Rattle.capi.proofs.splicetuck_check.Reads as reads
 use Rattle.capi.proofs.splicetuck_check.Lts as lts
-use Rattle.telling.proofs.tell.Reads as tell-reads
-use Rattle.chart.proofs.check.Reads as check-reads
+use Rattle.c_answers.proofs.tell.Reads as tell-reads
+use Rattle.check_tables.proofs.check.Reads as check-reads
 
 check-requires : tie.Need-check-requires
 check-requires c κs = search needs

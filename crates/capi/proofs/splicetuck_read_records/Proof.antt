@@ -6,11 +6,11 @@ use Rattle.capi.proofs.splicetuck_read_records.Statement.{statement}
 use Rattle.capi.proofs.splicetuck_read_records.Tie as tie
 use Rattle.capi.proofs.splicetuck_read_records.Reads as reads
 use Rattle.capi.proofs.splicetuck_read_records.Lts as lts
-use Rattle.telling.proofs.is_file.Reads as is-file-reads
-use Rattle.telling.proofs.file_of.Reads as file-of-reads
-use Rattle.telling.proofs.refused.Reads as refused-reads
-use Rattle.telling.proofs.tell_records.Reads as tell-records-reads
-use Rattle.file.proofs.read_records.Reads as read-records-reads
+use Rattle.c_answers.proofs.is_file.Reads as is-file-reads
+use Rattle.c_answers.proofs.file_of.Reads as file-of-reads
+use Rattle.c_answers.proofs.refused.Reads as refused-reads
+use Rattle.c_answers.proofs.tell_records.Reads as tell-records-reads
+use Rattle.csv_file.proofs.read_records.Reads as read-records-reads
 
 is-file-requires : tie.Need-is-file-requires
 is-file-requires c κs = search needs

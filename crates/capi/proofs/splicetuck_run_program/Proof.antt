@@ -46,21 +46,21 @@ use Rattle.meaning.proofs.Block.Laws as T′
 use Rattle.meaning.specs.declared.Ran.{Ran}
 use Rattle.meaning.proofs.Ran as N
 use Rattle.meaning.proofs.Ran.Laws as N′
-use Rattle.telling.specs.declared.Answer.{Answer}
-use Rattle.telling.proofs.Answer as AN
-use Rattle.telling.proofs.Answer.Laws as AN′
-use Rattle.il.specs.Scans.{holding}
-use Rattle.row.specs.Lent.{LentAgain, lends-again, comes-back}
-use Rattle.programs.specs.Runs.{ProgramRan}
-use Rattle.telling.specs.Answers.{RanTold}
-use Rattle.programs.proofs.run_program as run-program-fn
-use Rattle.programs.proofs.run_program.Symbol as run-program-def
-use Rattle.programs.proofs.run_program.Symbol.{name as #programs·run-program}
-use Rattle.programs.proofs.run_program.Met as run-program-thm
-use Rattle.telling.proofs.tell_run as tell-run-fn
-use Rattle.telling.proofs.tell_run.Symbol as tell-run-def
-use Rattle.telling.proofs.tell_run.Symbol.{name as #telling·tell-run}
-use Rattle.telling.proofs.tell_run.Met as tell-run-thm
+use Rattle.c_answers.specs.declared.CAnswer.{CAnswer}
+use Rattle.c_answers.proofs.CAnswer as AN
+use Rattle.c_answers.proofs.CAnswer.Laws as AN′
+use Rattle.il_scan.specs.Scans.{controllerOf}
+use Rattle.il_run.specs.Lent.{LentAgain, lends-again, comes-back}
+use Rattle.il_run.specs.Runs.{ProgramRan}
+use Rattle.c_answers.specs.Answers.{RanTold}
+use Rattle.il_run.proofs.run_program as run-program-fn
+use Rattle.il_run.proofs.run_program.Symbol as run-program-def
+use Rattle.il_run.proofs.run_program.Symbol.{name as #programs·run-program}
+use Rattle.il_run.proofs.run_program.Met as run-program-thm
+use Rattle.c_answers.proofs.tell_run as tell-run-fn
+use Rattle.c_answers.proofs.tell_run.Symbol as tell-run-def
+use Rattle.c_answers.proofs.tell_run.Symbol.{name as #telling·tell-run}
+use Rattle.c_answers.proofs.tell_run.Met as tell-run-thm
 use Rattle.capi.proofs.splicetuck_run_program.Key.{name as #capi·splicetuck-run-program}
 use Rattle.capi.proofs.splicetuck_run_program as f
 use Rattle.capi.proofs.splicetuck_run_program.Statement as stated
@@ -88,13 +88,13 @@ Is-N s v = Is N.the-row s (v ∷ [])
 told-N : (s : Ran) (v : Val) → Is-N s v → v ≡ mach-N s
 told-N s v is = ap only (EL.tells N.the-type N′.the-laws s _ is)
 
-abbrev mach-AN : Answer → Val
+abbrev mach-AN : CAnswer → Val
 mach-AN s = LL.tuple-val AN.the-type AN′.the-laws (AN.the-type .to s)
 
-abbrev Is-AN : Answer → Val → Type 0
+abbrev Is-AN : CAnswer → Val → Type 0
 Is-AN s v = Is AN.the-row s (v ∷ [])
 
-told-AN : (s : Answer) (v : Val) → Is-AN s v → v ≡ mach-AN s
+told-AN : (s : CAnswer) (v : Val) → Is-AN s v → v ≡ mach-AN s
 told-AN s v is = ap only (LL.tells AN.the-type AN′.the-laws s _ is)
 
 module _ {M : Type 1} (𝓤 : URA M) (H : Heap 𝓤) (A : Atoms 𝓤) (mem : Memory → SProp 𝓤) (run : Routine → Fun 𝓤) where
@@ -112,7 +112,7 @@ module _ {M : Type 1} (𝓤 : URA M) (H : Heap 𝓤) (A : Atoms 𝓤) (W : Given
   typed-N : (d : Ran) (w : Val) → Is-N d w → Holds (hasTy N′.mir w) × WT w
   typed-N d w is = EL.lawful N.the-type N′.the-laws 𝓤 H A W tt .typed d (w ∷ []) is .0
 
-  typed-AN : (d : Answer) (w : Val) → Is-AN d w → Holds (hasTy AN′.mir w) × WT w
+  typed-AN : (d : CAnswer) (w : Val) → Is-AN d w → Holds (hasTy AN′.mir w) × WT w
   typed-AN d w is = LL.lawful AN.the-type AN′.the-laws 𝓤 H A W .typed d (w ∷ []) is .0
 
   -- ---- `run-program`
@@ -150,15 +150,15 @@ module _ {M : Type 1} (𝓤 : URA M) (H : Heap 𝓤) (A : Atoms 𝓤) (W : Given
         join ! $ frame ! $ done !
 
     abbrev Gave-run-program : (w : Val) (r : Ran) (z₂ : List ℕ) (z₃ : List Block) (z₅ : List ℕ) → Item 𝓤
-    Gave-run-program w r z₂ z₃ z₅ = given (Is N.the-row r (w ∷ []) × ((ProgramRan (a₀) (r₁ .now) (r₄ .now) (holding (r₂ .now) (r₃ .now)) (r₅ .now) r (holding z₂ z₃) z₅) × ((length z₂ ≡ length (r₂ .now)) × ((length z₃ ≡ length (r₃ .now)) × (length z₅ ≡ length (r₅ .now)))))) (‵ (flft κ₁ q₁) ⊛ (‵ (flft κ₂ q₂) ⊛ (‵ (flft κ₃ q₃) ⊛ (‵ (flft κ₄ q₄) ⊛ (‵ (flft κ₅ q₅) ⊛ (‵ (finally u8 (r₂ .name) z₂) ⊛ (‵ (finally T.the-row (r₃ .name) z₃) ⊛ (‵ (finally u64 (r₅ .name) z₅)))))))))
+    Gave-run-program w r z₂ z₃ z₅ = given (Is N.the-row r (w ∷ []) × ((ProgramRan (a₀) (r₁ .now) (r₄ .now) (controllerOf (r₂ .now) (r₃ .now)) (r₅ .now) r (controllerOf z₂ z₃) z₅) × ((length z₂ ≡ length (r₂ .now)) × ((length z₃ ≡ length (r₃ .now)) × (length z₅ ≡ length (r₅ .now)))))) (‵ (flft κ₁ q₁) ⊛ (‵ (flft κ₂ q₂) ⊛ (‵ (flft κ₃ q₃) ⊛ (‵ (flft κ₄ q₄) ⊛ (‵ (flft κ₅ q₅) ⊛ (‵ (finally u8 (r₂ .name) z₂) ⊛ (‵ (finally T.the-row (r₃ .name) z₃) ⊛ (‵ (finally u64 (r₅ .name) z₅)))))))))
 
     gives-run-program : (w : Val) → ent 𝓤 (The-run-program 𝓤 H A mem run .post to-run-program w) (H .⇛ (ex 𝓤 (λ (r : Ran). ex 𝓤 (λ (z₂ : List ℕ). ex 𝓤 (λ (z₃ : List Block). ex 𝓤 (λ (z₅ : List ℕ). mean 𝓤 H A (Gave-run-program w r z₂ z₃ z₅)))))))
     gives-run-program w =
         qed W (raw (The-run-program 𝓤 H A mem run .post to-run-program w) ∷ []) ∵ updating ! $
-        use1 W (later (some (λ (r : Ran). ((‵ (flft κ₁ q₁) ⊛ (‵ (flft κ₂ q₂) ⊛ (‵ (flft κ₃ q₃) ⊛ (‵ (flft κ₄ q₄) ⊛ (‵ (flft κ₅ q₅) ⊛ ‵ ftrue))))) ⊛ ‵ (N.the-row .own r (w ∷ []))) ⊛ some (λ (zs : (Unit {0} × (Unit {0} × (List ℕ × (List Block × (Unit {0} × (List ℕ × Unit {0}))))))). ‵ (lasts run-program-fn.ended (κ₁, (κ₂, (κ₃, (κ₄, (κ₅, tt))))) (a₀, (r₁, (r₂, (r₃, (r₄, (r₅, tt)))))) zs) ⊛ raw (fact 𝓤 (ProgramRan (a₀) (r₁ .now) (r₄ .now) (holding (r₂ .now) (r₃ .now)) (r₅ .now) r (holding (zs .1 .1 .0) (zs .1 .1 .1 .0)) (zs .1 .1 .1 .1 .1 .0))))))) (id⊢ 𝓤 _) $ await ! tt $
+        use1 W (later (some (λ (r : Ran). ((‵ (flft κ₁ q₁) ⊛ (‵ (flft κ₂ q₂) ⊛ (‵ (flft κ₃ q₃) ⊛ (‵ (flft κ₄ q₄) ⊛ (‵ (flft κ₅ q₅) ⊛ ‵ ftrue))))) ⊛ ‵ (N.the-row .own r (w ∷ []))) ⊛ some (λ (zs : (Unit {0} × (Unit {0} × (List ℕ × (List Block × (Unit {0} × (List ℕ × Unit {0}))))))). ‵ (lasts run-program-fn.ended (κ₁, (κ₂, (κ₃, (κ₄, (κ₅, tt))))) (a₀, (r₁, (r₂, (r₃, (r₄, (r₅, tt)))))) zs) ⊛ raw (fact 𝓤 (ProgramRan (a₀) (r₁ .now) (r₄ .now) (controllerOf (r₂ .now) (r₃ .now)) (r₅ .now) r (controllerOf (zs .1 .1 .0) (zs .1 .1 .1 .0)) (zs .1 .1 .1 .1 .1 .0))))))) (id⊢ 𝓤 _) $ await ! tt $
         pick ! (λ r. split ! $ move ! (1 ∷ []) $
         pick ! (λ zs. split ! $ move ! (1 ∷ []) $
-        heard ! (ProgramRan (a₀) (r₁ .now) (r₄ .now) (holding (r₂ .now) (r₃ .now)) (r₅ .now) r (holding (zs .1 .1 .0) (zs .1 .1 .1 .0)) (zs .1 .1 .1 .1 .1 .0)) (λ e.
+        heard ! (ProgramRan (a₀) (r₁ .now) (r₄ .now) (controllerOf (r₂ .now) (r₃ .now)) (r₅ .now) r (controllerOf (zs .1 .1 .0) (zs .1 .1 .1 .0)) (zs .1 .1 .1 .1 .1 .0)) (λ e.
         fsplit ! $
         move ! (1 ∷ []) $
         fsplit ! $
@@ -214,13 +214,13 @@ module _ {M : Type 1} (𝓤 : URA M) (H : Heap 𝓤) (A : Atoms 𝓤) (W : Given
         nothing ! $
         join ! $ frame ! $ done !
 
-    abbrev Gave-tell-run : (w : Val) (r : Answer) → Item 𝓤
+    abbrev Gave-tell-run : (w : Val) (r : CAnswer) → Item 𝓤
     Gave-tell-run w r = given (Is AN.the-row r (w ∷ []) × (RanTold (a₀) r)) (‵ ftrue)
 
-    gives-tell-run : (w : Val) → ent 𝓤 (The-tell-run 𝓤 H A mem run .post to-tell-run w) (H .⇛ (ex 𝓤 (λ (r : Answer). mean 𝓤 H A (Gave-tell-run w r))))
+    gives-tell-run : (w : Val) → ent 𝓤 (The-tell-run 𝓤 H A mem run .post to-tell-run w) (H .⇛ (ex 𝓤 (λ (r : CAnswer). mean 𝓤 H A (Gave-tell-run w r))))
     gives-tell-run w =
         qed W (raw (The-tell-run 𝓤 H A mem run .post to-tell-run w) ∷ []) ∵ updating ! $
-        use1 W (later (some (λ (r : Answer). (‵ ftrue ⊛ ‵ (AN.the-row .own r (w ∷ []))) ⊛ some (λ (zs : (Unit {0} × Unit {0})). ‵ (lasts tell-run-fn.ended tt (a₀, tt) zs) ⊛ raw (fact 𝓤 (RanTold (a₀) r)))))) (id⊢ 𝓤 _) $ await ! tt $
+        use1 W (later (some (λ (r : CAnswer). (‵ ftrue ⊛ ‵ (AN.the-row .own r (w ∷ []))) ⊛ some (λ (zs : (Unit {0} × Unit {0})). ‵ (lasts tell-run-fn.ended tt (a₀, tt) zs) ⊛ raw (fact 𝓤 (RanTold (a₀) r)))))) (id⊢ 𝓤 _) $ await ! tt $
         pick ! (λ r. split ! $ move ! (1 ∷ []) $
         pick ! (λ zs. split ! $ move ! (1 ∷ []) $
         heard ! (RanTold (a₀) r) (λ e.
@@ -229,7 +229,7 @@ module _ {M : Type 1} (𝓤 : URA M) (H : Heap 𝓤) (A : Atoms 𝓤) (W : Given
         move ! (1 ∷ []) $
         peeks ! AN.the-row (Is AN.the-row) (shows 𝓤 H A AN.the-row) r (w ∷ []) (λ isr.
         at-once ! $
-        show ! (λ (r : Answer). mean 𝓤 H A (Gave-tell-run w r)) r $
+        show ! (λ (r : CAnswer). mean 𝓤 H A (Gave-tell-run w r)) r $
         check ! (isr, e) $
         nothing ! $ keep ! (0 ∷ []) $ done !))))
 
@@ -286,7 +286,7 @@ module _ {M : Type 1} (𝓤 : URA M) (H : Heap 𝓤) (A : Atoms 𝓤) (W : Given
   abbrev Post : Val → SProp 𝓤
   Post = walkOf 𝓤 H A f.ended stayed (f.clauses 𝓤 H A mem run) .post bound
 
-  exits : (r : Answer) (fs′ : List ℕ) (bs′ : List Block) (os′ : List ℕ) → Is AN.the-row r ((mach-AN r) ∷ []) → length fs′ ≡ length fs₀ → length bs′ ≡ length bs₀ → length os′ ≡ length os₀ → ((q : Ran) × ProgramRan st ws xs (holding fs₀ bs₀) os₀ q (holding fs′ bs′) os′ × RanTold q r)
+  exits : (r : CAnswer) (fs′ : List ℕ) (bs′ : List Block) (os′ : List ℕ) → Is AN.the-row r ((mach-AN r) ∷ []) → length fs′ ≡ length fs₀ → length bs′ ≡ length bs₀ → length os′ ≡ length os₀ → ((q : Ran) × ProgramRan st ws xs (controllerOf fs₀ bs₀) os₀ q (controllerOf fs′ bs′) os′ × RanTold q r)
       → ent 𝓤 (⋆ 𝓤 H A ((‵ (flft κ₁ q₁) ⊛ (‵ (flft κ₂ q₂) ⊛ (‵ (flft κ₃ q₃) ⊛ (‵ (flft κ₄ q₄) ⊛ (‵ (flft κ₅ q₅) ⊛ ‵ ftrue))))) ∷ ‵ Own-ws ∷ ‵ (Own-fs fs′) ∷ ‵ (Own-bs bs′) ∷ ‵ Own-xs ∷ ‵ (Own-os os′) ∷ [])) (Post (mach-AN r))
   exits r fs′ bs′ os′ isr n₂ n₃ n₅ e =
       qed W ((‵ (flft κ₁ q₁) ⊛ (‵ (flft κ₂ q₂) ⊛ (‵ (flft κ₃ q₃) ⊛ (‵ (flft κ₄ q₄) ⊛ (‵ (flft κ₅ q₅) ⊛ ‵ ftrue))))) ∷ ‵ Own-ws ∷ ‵ (Own-fs fs′) ∷ ‵ (Own-bs bs′) ∷ ‵ Own-xs ∷ ‵ (Own-os os′) ∷ []) ∵
@@ -416,7 +416,7 @@ module _ {M : Type 1} (𝓤 : URA M) (H : Heap 𝓤) (A : Atoms 𝓤) (W : Given
       move ! (9 ∷ 7 ∷ 4 ∷ 5 ∷ 2 ∷ 3 ∷ 8 ∷ 6 ∷ 0 ∷ 1 ∷ []) $
       nothing ! $ use1 W (raw (The-tell-run 𝓤 H A mem run .pre (to-tell-run 𝓤 H A W mem run r₁ (mach-N r₁) (subst (Is-N r₁) (told-N r₁ w₁ (e₁ .0)) (e₁ .0))))) (goes-tell-run 𝓤 H A W mem run r₁ (mach-N r₁) (subst (Is-N r₁) (told-N r₁ w₁ (e₁ .0)) (e₁ .0))) $
       calls-at ! (fmOf 𝓤 H (W .laws) 𝓣) (The-tell-run 𝓤 H A mem run) known-tell-run (to-tell-run 𝓤 H A W mem run r₁ (mach-N r₁) (subst (Is-N r₁) (told-N r₁ w₁ (e₁ .0)) (e₁ .0))) (and-then ! (load ! (from ! (stop !)) (look ! 23 refl)) (no-more !)) (λ w₂.
-      use1 W (later (some (λ (r : Answer). Gave-tell-run 𝓤 H A W mem run r₁ (mach-N r₁) (subst (Is-N r₁) (told-N r₁ w₁ (e₁ .0)) (e₁ .0)) w₂ r))) (gives-tell-run 𝓤 H A W mem run r₁ (mach-N r₁) (subst (Is-N r₁) (told-N r₁ w₁ (e₁ .0)) (e₁ .0)) w₂) $ await ! tt $
+      use1 W (later (some (λ (r : CAnswer). Gave-tell-run 𝓤 H A W mem run r₁ (mach-N r₁) (subst (Is-N r₁) (told-N r₁ w₁ (e₁ .0)) (e₁ .0)) w₂ r))) (gives-tell-run 𝓤 H A W mem run r₁ (mach-N r₁) (subst (Is-N r₁) (told-N r₁ w₁ (e₁ .0)) (e₁ .0)) w₂) $ await ! tt $
       pick ! (λ r₂.
       learn ! (λ e₂.
       drop ! $
@@ -492,5 +492,5 @@ splicetuck-run-program-spec 𝓤 H 𝓜 𝓖 𝓡 =
     entered 𝓤 H (tripleOf 𝓤 H (𝓖 .A) f.signature (f.spec 𝓤 H (𝓖 .A) (𝓜 .mem) (𝓡 .run)))
     (tables 𝓤 H 𝓜 𝓡 code.env .C) (tables 𝓤 H 𝓜 𝓡 code.env .Λ) #capi·splicetuck-run-program code.function (code.unfolded 𝓤 H 𝓜 𝓡)
     (meets 𝓤 H (𝓖 .A) (givenOf 𝓤 H 𝓜 𝓖) (𝓜 .mem) (𝓡 .run) (tablesOf 𝓤 H 𝓜 (tables 𝓤 H 𝓜 𝓡 code.env))
-    (cited 𝓤 H (The-run-program 𝓤 H (𝓖 .A) (𝓜 .mem) (𝓡 .run)) 𝓜 𝓡 code.env #programs·run-program run-program-def.routine code.calls-programs·run-program (run-program-thm.met 𝓤 H 𝓜 𝓖 𝓡))
-    (cited 𝓤 H (The-tell-run 𝓤 H (𝓖 .A) (𝓜 .mem) (𝓡 .run)) 𝓜 𝓡 code.env #telling·tell-run tell-run-def.routine code.calls-telling·tell-run (tell-run-thm.met 𝓤 H 𝓜 𝓖 𝓡)))
+    (cited 𝓤 H (The-run-program 𝓤 H (𝓖 .A) (𝓜 .mem) (𝓡 .run)) 𝓜 𝓡 code.env #programs·run-program run-program-def.routine code.calls-il-run·run-program (run-program-thm.met 𝓤 H 𝓜 𝓖 𝓡))
+    (cited 𝓤 H (The-tell-run 𝓤 H (𝓖 .A) (𝓜 .mem) (𝓡 .run)) 𝓜 𝓡 code.env #telling·tell-run tell-run-def.routine code.calls-c-answers·tell-run (tell-run-thm.met 𝓤 H 𝓜 𝓖 𝓡)))

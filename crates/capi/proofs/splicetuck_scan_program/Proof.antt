@@ -43,24 +43,24 @@ use denote.Exit.{yes}
 use Rattle.meaning.specs.declared.Block.{Block}
 use Rattle.meaning.proofs.Block as T
 use Rattle.meaning.proofs.Block.Laws as T′
-use Rattle.programs.specs.declared.Scanned.{Scanned}
-use Rattle.programs.proofs.Scanned as O
-use Rattle.programs.proofs.Scanned.Laws as O′
-use Rattle.telling.specs.declared.Scan.{Scan}
-use Rattle.telling.proofs.Scan as SC
-use Rattle.telling.proofs.Scan.Laws as SC′
-use Rattle.il.specs.Scans.{holding}
-use Rattle.row.specs.Lent.{LentAgain, lends-again, comes-back}
-use Rattle.programs.specs.Runs.{ProgramScanned}
-use Rattle.telling.specs.Answers.{ScanTold}
-use Rattle.programs.proofs.scan_program as scan-program-fn
-use Rattle.programs.proofs.scan_program.Symbol as scan-program-def
-use Rattle.programs.proofs.scan_program.Symbol.{name as #programs·scan-program}
-use Rattle.programs.proofs.scan_program.Met as scan-program-thm
-use Rattle.telling.proofs.tell_scan as tell-scan-fn
-use Rattle.telling.proofs.tell_scan.Symbol as tell-scan-def
-use Rattle.telling.proofs.tell_scan.Symbol.{name as #telling·tell-scan}
-use Rattle.telling.proofs.tell_scan.Met as tell-scan-thm
+use Rattle.il_run.specs.declared.Scanned.{Scanned}
+use Rattle.il_run.proofs.Scanned as O
+use Rattle.il_run.proofs.Scanned.Laws as O′
+use Rattle.c_answers.specs.declared.CScan.{CScan}
+use Rattle.c_answers.proofs.CScan as SC
+use Rattle.c_answers.proofs.CScan.Laws as SC′
+use Rattle.il_scan.specs.Scans.{controllerOf}
+use Rattle.il_run.specs.Lent.{LentAgain, lends-again, comes-back}
+use Rattle.il_run.specs.Runs.{ProgramScanned}
+use Rattle.c_answers.specs.Answers.{ScanTold}
+use Rattle.il_run.proofs.scan_program as scan-program-fn
+use Rattle.il_run.proofs.scan_program.Symbol as scan-program-def
+use Rattle.il_run.proofs.scan_program.Symbol.{name as #programs·scan-program}
+use Rattle.il_run.proofs.scan_program.Met as scan-program-thm
+use Rattle.c_answers.proofs.tell_scan as tell-scan-fn
+use Rattle.c_answers.proofs.tell_scan.Symbol as tell-scan-def
+use Rattle.c_answers.proofs.tell_scan.Symbol.{name as #telling·tell-scan}
+use Rattle.c_answers.proofs.tell_scan.Met as tell-scan-thm
 use Rattle.capi.proofs.splicetuck_scan_program.Key.{name as #capi·splicetuck-scan-program}
 use Rattle.capi.proofs.splicetuck_scan_program as f
 use Rattle.capi.proofs.splicetuck_scan_program.Statement as stated
@@ -88,13 +88,13 @@ Is-O s v = Is O.the-row s (v ∷ [])
 told-O : (s : Scanned) (v : Val) → Is-O s v → v ≡ mach-O s
 told-O s v is = ap only (EL.tells O.the-type O′.the-laws s _ is)
 
-abbrev mach-SC : Scan → Val
+abbrev mach-SC : CScan → Val
 mach-SC s = LL.tuple-val SC.the-type SC′.the-laws (SC.the-type .to s)
 
-abbrev Is-SC : Scan → Val → Type 0
+abbrev Is-SC : CScan → Val → Type 0
 Is-SC s v = Is SC.the-row s (v ∷ [])
 
-told-SC : (s : Scan) (v : Val) → Is-SC s v → v ≡ mach-SC s
+told-SC : (s : CScan) (v : Val) → Is-SC s v → v ≡ mach-SC s
 told-SC s v is = ap only (LL.tells SC.the-type SC′.the-laws s _ is)
 
 module _ {M : Type 1} (𝓤 : URA M) (H : Heap 𝓤) (A : Atoms 𝓤) (mem : Memory → SProp 𝓤) (run : Routine → Fun 𝓤) where
@@ -112,7 +112,7 @@ module _ {M : Type 1} (𝓤 : URA M) (H : Heap 𝓤) (A : Atoms 𝓤) (W : Given
   typed-O : (d : Scanned) (w : Val) → Is-O d w → Holds (hasTy O′.mir w) × WT w
   typed-O d w is = EL.lawful O.the-type O′.the-laws 𝓤 H A W tt .typed d (w ∷ []) is .0
 
-  typed-SC : (d : Scan) (w : Val) → Is-SC d w → Holds (hasTy SC′.mir w) × WT w
+  typed-SC : (d : CScan) (w : Val) → Is-SC d w → Holds (hasTy SC′.mir w) × WT w
   typed-SC d w is = LL.lawful SC.the-type SC′.the-laws 𝓤 H A W .typed d (w ∷ []) is .0
 
   -- ---- `scan-program`
@@ -143,15 +143,15 @@ module _ {M : Type 1} (𝓤 : URA M) (H : Heap 𝓤) (A : Atoms 𝓤) (W : Given
         join ! $ frame ! $ done !
 
     abbrev Gave-scan-program : (w : Val) (r : Scanned) (z₂ : List ℕ) (z₃ : List Block) → Item 𝓤
-    Gave-scan-program w r z₂ z₃ = given (Is O.the-row r (w ∷ []) × ((ProgramScanned (a₀) (r₁ .now) (a₄) (holding (r₂ .now) (r₃ .now)) r (holding z₂ z₃)) × ((length z₂ ≡ length (r₂ .now)) × (length z₃ ≡ length (r₃ .now))))) (‵ (flft κ₁ q₁) ⊛ (‵ (flft κ₂ q₂) ⊛ (‵ (flft κ₃ q₃) ⊛ (‵ (finally u8 (r₂ .name) z₂) ⊛ (‵ (finally T.the-row (r₃ .name) z₃))))))
+    Gave-scan-program w r z₂ z₃ = given (Is O.the-row r (w ∷ []) × ((ProgramScanned (a₀) (r₁ .now) (a₄) (controllerOf (r₂ .now) (r₃ .now)) r (controllerOf z₂ z₃)) × ((length z₂ ≡ length (r₂ .now)) × (length z₃ ≡ length (r₃ .now))))) (‵ (flft κ₁ q₁) ⊛ (‵ (flft κ₂ q₂) ⊛ (‵ (flft κ₃ q₃) ⊛ (‵ (finally u8 (r₂ .name) z₂) ⊛ (‵ (finally T.the-row (r₃ .name) z₃))))))
 
     gives-scan-program : (w : Val) → ent 𝓤 (The-scan-program 𝓤 H A mem run .post to-scan-program w) (H .⇛ (ex 𝓤 (λ (r : Scanned). ex 𝓤 (λ (z₂ : List ℕ). ex 𝓤 (λ (z₃ : List Block). mean 𝓤 H A (Gave-scan-program w r z₂ z₃))))))
     gives-scan-program w =
         qed W (raw (The-scan-program 𝓤 H A mem run .post to-scan-program w) ∷ []) ∵ updating ! $
-        use1 W (later (some (λ (r : Scanned). ((‵ (flft κ₁ q₁) ⊛ (‵ (flft κ₂ q₂) ⊛ (‵ (flft κ₃ q₃) ⊛ ‵ ftrue))) ⊛ ‵ (O.the-row .own r (w ∷ []))) ⊛ some (λ (zs : (Unit {0} × (Unit {0} × (List ℕ × (List Block × (Unit {0} × Unit {0})))))). ‵ (lasts scan-program-fn.ended (κ₁, (κ₂, (κ₃, tt))) (a₀, (r₁, (r₂, (r₃, (a₄, tt))))) zs) ⊛ raw (fact 𝓤 (ProgramScanned (a₀) (r₁ .now) (a₄) (holding (r₂ .now) (r₃ .now)) r (holding (zs .1 .1 .0) (zs .1 .1 .1 .0)))))))) (id⊢ 𝓤 _) $ await ! tt $
+        use1 W (later (some (λ (r : Scanned). ((‵ (flft κ₁ q₁) ⊛ (‵ (flft κ₂ q₂) ⊛ (‵ (flft κ₃ q₃) ⊛ ‵ ftrue))) ⊛ ‵ (O.the-row .own r (w ∷ []))) ⊛ some (λ (zs : (Unit {0} × (Unit {0} × (List ℕ × (List Block × (Unit {0} × Unit {0})))))). ‵ (lasts scan-program-fn.ended (κ₁, (κ₂, (κ₃, tt))) (a₀, (r₁, (r₂, (r₃, (a₄, tt))))) zs) ⊛ raw (fact 𝓤 (ProgramScanned (a₀) (r₁ .now) (a₄) (controllerOf (r₂ .now) (r₃ .now)) r (controllerOf (zs .1 .1 .0) (zs .1 .1 .1 .0)))))))) (id⊢ 𝓤 _) $ await ! tt $
         pick ! (λ r. split ! $ move ! (1 ∷ []) $
         pick ! (λ zs. split ! $ move ! (1 ∷ []) $
-        heard ! (ProgramScanned (a₀) (r₁ .now) (a₄) (holding (r₂ .now) (r₃ .now)) r (holding (zs .1 .1 .0) (zs .1 .1 .1 .0))) (λ e.
+        heard ! (ProgramScanned (a₀) (r₁ .now) (a₄) (controllerOf (r₂ .now) (r₃ .now)) r (controllerOf (zs .1 .1 .0) (zs .1 .1 .1 .0))) (λ e.
         fsplit ! $
         move ! (1 ∷ []) $
         fsplit ! $
@@ -195,13 +195,13 @@ module _ {M : Type 1} (𝓤 : URA M) (H : Heap 𝓤) (A : Atoms 𝓤) (W : Given
         nothing ! $
         join ! $ frame ! $ done !
 
-    abbrev Gave-tell-scan : (w : Val) (r : Scan) → Item 𝓤
+    abbrev Gave-tell-scan : (w : Val) (r : CScan) → Item 𝓤
     Gave-tell-scan w r = given (Is SC.the-row r (w ∷ []) × (ScanTold (a₀) r)) (‵ ftrue)
 
-    gives-tell-scan : (w : Val) → ent 𝓤 (The-tell-scan 𝓤 H A mem run .post to-tell-scan w) (H .⇛ (ex 𝓤 (λ (r : Scan). mean 𝓤 H A (Gave-tell-scan w r))))
+    gives-tell-scan : (w : Val) → ent 𝓤 (The-tell-scan 𝓤 H A mem run .post to-tell-scan w) (H .⇛ (ex 𝓤 (λ (r : CScan). mean 𝓤 H A (Gave-tell-scan w r))))
     gives-tell-scan w =
         qed W (raw (The-tell-scan 𝓤 H A mem run .post to-tell-scan w) ∷ []) ∵ updating ! $
-        use1 W (later (some (λ (r : Scan). (‵ ftrue ⊛ ‵ (SC.the-row .own r (w ∷ []))) ⊛ some (λ (zs : (Unit {0} × Unit {0})). ‵ (lasts tell-scan-fn.ended tt (a₀, tt) zs) ⊛ raw (fact 𝓤 (ScanTold (a₀) r)))))) (id⊢ 𝓤 _) $ await ! tt $
+        use1 W (later (some (λ (r : CScan). (‵ ftrue ⊛ ‵ (SC.the-row .own r (w ∷ []))) ⊛ some (λ (zs : (Unit {0} × Unit {0})). ‵ (lasts tell-scan-fn.ended tt (a₀, tt) zs) ⊛ raw (fact 𝓤 (ScanTold (a₀) r)))))) (id⊢ 𝓤 _) $ await ! tt $
         pick ! (λ r. split ! $ move ! (1 ∷ []) $
         pick ! (λ zs. split ! $ move ! (1 ∷ []) $
         heard ! (ScanTold (a₀) r) (λ e.
@@ -210,7 +210,7 @@ module _ {M : Type 1} (𝓤 : URA M) (H : Heap 𝓤) (A : Atoms 𝓤) (W : Given
         move ! (1 ∷ []) $
         peeks ! SC.the-row (Is SC.the-row) (shows 𝓤 H A SC.the-row) r (w ∷ []) (λ isr.
         at-once ! $
-        show ! (λ (r : Scan). mean 𝓤 H A (Gave-tell-scan w r)) r $
+        show ! (λ (r : CScan). mean 𝓤 H A (Gave-tell-scan w r)) r $
         check ! (isr, e) $
         nothing ! $ keep ! (0 ∷ []) $ done !))))
 
@@ -249,7 +249,7 @@ module _ {M : Type 1} (𝓤 : URA M) (H : Heap 𝓤) (A : Atoms 𝓤) (W : Given
   abbrev Post : Val → SProp 𝓤
   Post = walkOf 𝓤 H A f.ended stayed (f.clauses 𝓤 H A mem run) .post bound
 
-  exits : (r : Scan) (fs′ : List ℕ) (bs′ : List Block) → Is SC.the-row r ((mach-SC r) ∷ []) → length fs′ ≡ length fs₀ → length bs′ ≡ length bs₀ → ((q : Scanned) × ProgramScanned st ws x (holding fs₀ bs₀) q (holding fs′ bs′) × ScanTold q r)
+  exits : (r : CScan) (fs′ : List ℕ) (bs′ : List Block) → Is SC.the-row r ((mach-SC r) ∷ []) → length fs′ ≡ length fs₀ → length bs′ ≡ length bs₀ → ((q : Scanned) × ProgramScanned st ws x (controllerOf fs₀ bs₀) q (controllerOf fs′ bs′) × ScanTold q r)
       → ent 𝓤 (⋆ 𝓤 H A ((‵ (flft κ₁ q₁) ⊛ (‵ (flft κ₂ q₂) ⊛ (‵ (flft κ₃ q₃) ⊛ ‵ ftrue))) ∷ ‵ Own-ws ∷ ‵ (Own-fs fs′) ∷ ‵ (Own-bs bs′) ∷ [])) (Post (mach-SC r))
   exits r fs′ bs′ isr n₂ n₃ e =
       qed W ((‵ (flft κ₁ q₁) ⊛ (‵ (flft κ₂ q₂) ⊛ (‵ (flft κ₃ q₃) ⊛ ‵ ftrue))) ∷ ‵ Own-ws ∷ ‵ (Own-fs fs′) ∷ ‵ (Own-bs bs′) ∷ []) ∵
@@ -348,7 +348,7 @@ module _ {M : Type 1} (𝓤 : URA M) (H : Heap 𝓤) (A : Atoms 𝓤) (W : Given
       move ! (5 ∷ 4 ∷ 2 ∷ 3 ∷ 0 ∷ 1 ∷ []) $
       nothing ! $ use1 W (raw (The-tell-scan 𝓤 H A mem run .pre (to-tell-scan 𝓤 H A W mem run r₁ (mach-O r₁) (subst (Is-O r₁) (told-O r₁ w₁ (e₁ .0)) (e₁ .0))))) (goes-tell-scan 𝓤 H A W mem run r₁ (mach-O r₁) (subst (Is-O r₁) (told-O r₁ w₁ (e₁ .0)) (e₁ .0))) $
       calls-at ! (fmOf 𝓤 H (W .laws) 𝓣) (The-tell-scan 𝓤 H A mem run) known-tell-scan (to-tell-scan 𝓤 H A W mem run r₁ (mach-O r₁) (subst (Is-O r₁) (told-O r₁ w₁ (e₁ .0)) (e₁ .0))) (and-then ! (load ! (from ! (stop !)) (look ! 15 refl)) (no-more !)) (λ w₂.
-      use1 W (later (some (λ (r : Scan). Gave-tell-scan 𝓤 H A W mem run r₁ (mach-O r₁) (subst (Is-O r₁) (told-O r₁ w₁ (e₁ .0)) (e₁ .0)) w₂ r))) (gives-tell-scan 𝓤 H A W mem run r₁ (mach-O r₁) (subst (Is-O r₁) (told-O r₁ w₁ (e₁ .0)) (e₁ .0)) w₂) $ await ! tt $
+      use1 W (later (some (λ (r : CScan). Gave-tell-scan 𝓤 H A W mem run r₁ (mach-O r₁) (subst (Is-O r₁) (told-O r₁ w₁ (e₁ .0)) (e₁ .0)) w₂ r))) (gives-tell-scan 𝓤 H A W mem run r₁ (mach-O r₁) (subst (Is-O r₁) (told-O r₁ w₁ (e₁ .0)) (e₁ .0)) w₂) $ await ! tt $
       pick ! (λ r₂.
       learn ! (λ e₂.
       drop ! $
@@ -411,5 +411,5 @@ splicetuck-scan-program-spec 𝓤 H 𝓜 𝓖 𝓡 =
     entered 𝓤 H (tripleOf 𝓤 H (𝓖 .A) f.signature (f.spec 𝓤 H (𝓖 .A) (𝓜 .mem) (𝓡 .run)))
     (tables 𝓤 H 𝓜 𝓡 code.env .C) (tables 𝓤 H 𝓜 𝓡 code.env .Λ) #capi·splicetuck-scan-program code.function (code.unfolded 𝓤 H 𝓜 𝓡)
     (meets 𝓤 H (𝓖 .A) (givenOf 𝓤 H 𝓜 𝓖) (𝓜 .mem) (𝓡 .run) (tablesOf 𝓤 H 𝓜 (tables 𝓤 H 𝓜 𝓡 code.env))
-    (cited 𝓤 H (The-scan-program 𝓤 H (𝓖 .A) (𝓜 .mem) (𝓡 .run)) 𝓜 𝓡 code.env #programs·scan-program scan-program-def.routine code.calls-programs·scan-program (scan-program-thm.met 𝓤 H 𝓜 𝓖 𝓡))
-    (cited 𝓤 H (The-tell-scan 𝓤 H (𝓖 .A) (𝓜 .mem) (𝓡 .run)) 𝓜 𝓡 code.env #telling·tell-scan tell-scan-def.routine code.calls-telling·tell-scan (tell-scan-thm.met 𝓤 H 𝓜 𝓖 𝓡)))
+    (cited 𝓤 H (The-scan-program 𝓤 H (𝓖 .A) (𝓜 .mem) (𝓡 .run)) 𝓜 𝓡 code.env #programs·scan-program scan-program-def.routine code.calls-il-run·scan-program (scan-program-thm.met 𝓤 H 𝓜 𝓖 𝓡))
+    (cited 𝓤 H (The-tell-scan 𝓤 H (𝓖 .A) (𝓜 .mem) (𝓡 .run)) 𝓜 𝓡 code.env #telling·tell-scan tell-scan-def.routine code.calls-c-answers·tell-scan (tell-scan-thm.met 𝓤 H 𝓜 𝓖 𝓡)))

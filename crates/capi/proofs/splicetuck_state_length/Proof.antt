@@ -1,14 +1,14 @@
 use mathlib.Core.Path.{refl, sym, _∙_}
-use Rattle.meaning.specs.Verdict.{accepted-exactly}
+use Rattle.meaning.specs.Laws.Verdict.{accepted-exactly}
 use borrow.Author.Needs.{needs}
 use Rattle.capi.proofs.splicetuck_state_length.Statement.{statement}
 use Rattle.capi.proofs.splicetuck_state_length.Tie as tie
 use Rattle.capi.proofs.splicetuck_state_length.Reads as reads
 use Rattle.capi.proofs.splicetuck_state_length.Lts as lts
-use Rattle.telling.proofs.accepted.Reads as accepted-reads
-use Rattle.telling.proofs.refused.Reads as refused-reads
-use Rattle.chart.proofs.check.Reads as check-reads
-use Rattle.stateread.proofs.state_length.Reads as state-length-reads
+use Rattle.c_answers.proofs.accepted.Reads as accepted-reads
+use Rattle.c_answers.proofs.refused.Reads as refused-reads
+use Rattle.check_tables.proofs.check.Reads as check-reads
+use Rattle.chart_state_read.proofs.state_length.Reads as state-length-reads
 
 check-requires : tie.Need-check-requires
 check-requires c κs = search needs

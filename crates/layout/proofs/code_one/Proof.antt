@@ -1,5 +1,5 @@
 use Rattle.meaning.specs.Tables.{superState, initial}
-use Rattle.meaning.specs.Layout.{other}
+use Rattle.meaning.specs.Layout.{otherSubState}
 use Rattle.tables.specs.Given.{state-count}
 use Rattle.layout.specs.Laid.{tally}
 use Rattle.layout.specs.LaidLaws.{statesOnly, length-tally, tally-le, code-root, code-far, code-initial, code-next}
@@ -63,7 +63,7 @@ add-others c =
     let b = c .before .before .before .before .before .before .before in
     let t = statesOnly (b .args .states .now) in
     let a = c .before .before .before .before .super-state .result in
-    let h : getD (b .args .others .now) a 0 ≤ b .args .s = rw (b .pre .2 t refl .0) (tally-le (other t) (b .args .s) a (omega arith)) in
+    let h : getD (b .args .others .now) a 0 ≤ b .args .s = rw (b .pre .2 t refl .0) (tally-le (otherSubState t) (b .args .s) a (omega arith)) in
     omega arith
 
 element-write-others : tie.Need-element-write-others
@@ -91,8 +91,8 @@ returns-4 c c' e =
     let f : a ≡ superState c' s = c .before .before .before .before .before .super-state .ensures c' e in
     let n : s ≡ initial c' (superState c' s) → ⊥ = λ x. c .before .before .if3 .left (x ∙ sym (c .before .before .before .initial .ensures c' e ∙ ap (initial c') f)) in
     let r = code-next c' s (c .before .before .before .before .before .before .if1 .left) (omega (arith, state-count c' _ e)) (omega arith) n (omega arith) in
-    let w : v ≡ getD (tally (other c') s) (superState c' s) 0 + 1 = rw (p .0, f) in
-    let m = getD-set-same (b .args .others .now) a v 0 (omega (arith, ap length (p .0), length-tally (other c') s)) in
+    let w : v ≡ getD (tally (otherSubState c') s) (superState c' s) 0 + 1 = rw (p .0, f) in
+    let m = getD-set-same (b .args .others .now) a v 0 (omega (arith, ap length (p .0), length-tally (otherSubState c') s)) in
     (rw (add-one s, p .0, f) (r .0), ap (set (b .args .codes .now) s) (m ∙ w) ∙ rw (add-one s, p .1) (r .1))
 
 pub code-one-spec : {M : Type 1} → statement M

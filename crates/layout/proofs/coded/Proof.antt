@@ -1,9 +1,9 @@
 use Rattle.meaning.specs.Rows.{count}
 use Rattle.meaning.specs.Tables.{Tables, initial}
 use Rattle.meaning.specs.Hierarchy.{subState}
-use Rattle.meaning.specs.HierarchyLaws.{sub-state-tells}
-use Rattle.meaning.specs.RowsLaws.{same-test}
-use Rattle.meaning.specs.Layout.{other, code}
+use Rattle.meaning.specs.Laws.Hierarchy.{sub-state-tells}
+use Rattle.meaning.specs.Laws.Rows.{same-test}
+use Rattle.meaning.specs.Layout.{otherSubState, code}
 use Rattle.meaning.specs.Lent.{coded}
 use Prim.Native.Nat.{ℕ, suc, _-_}
 use lib.Dec.{eqb}
@@ -20,7 +20,7 @@ use Rattle.tables.proofs.initial.Reads as initial-reads
 use Rattle.tables.proofs.sub_state.Reads as sub-state-reads
 
 -- the code of a sub-state of a, from the others of a below it
-coded-is : (c : Tables) (a k s : ℕ) → subState c a s ≡ true → coded c a k s ≡ eqb (cond (eqb s (initial c a)) 0 (suc (count (other c a) s))) k
+coded-is : (c : Tables) (a k s : ℕ) → subState c a s ≡ true → coded c a k s ≡ eqb (cond (eqb s (initial c a)) 0 (suc (count (otherSubState c a) s))) k
 unfolding coded code
 coded-is c a k s e = rw (e, code, sub-state-tells c a s .0 e .under)
 
@@ -56,7 +56,7 @@ sub-result c = search needs
 returns-4 : tie.Need-returns-4
 returns-4 c c' e q =
     let g = c .before .before .before .before .before .before .args in
-    let n = count (other c' (g .a)) (g .s) in
+    let n = count (otherSubState c' (g .a)) (g .s) in
     let s : subState c' (g .a) (g .s) ≡ true = sym (c .before .before .before .before .sub-state .ensures c' e) ∙ not-false _ (c .before .before .before .if1 .left) in
     let i : g .s ≡ initial c' (g .a) → ⊥ = λ x. c .before .if2 .left (x ∙ sym (c .before .before .initial .ensures c' e)) in
     sym (coded-is c' (g .a) (g .k) (g .s) s ∙ rw (ne-eqb (g .s) (initial c' (g .a)) i)

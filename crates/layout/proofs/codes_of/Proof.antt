@@ -1,5 +1,5 @@
 use Rattle.meaning.specs.Tables.{Tables}
-use Rattle.meaning.specs.Layout.{other}
+use Rattle.meaning.specs.Layout.{otherSubState}
 use Rattle.layout.specs.Laid.{tally, row, givenCode}
 use Rattle.layout.specs.LaidLaws.{tally-start, row-start}
 use Prim.Native.Nat.{_≤_, _-_}
@@ -13,7 +13,7 @@ use Rattle.layout.proofs.code_one.Reads as code-one-reads
 use Rattle.layout.proofs.laid_states.Reads as laid-states-reads
 
 abbrev Inv-loop : tie.InvT-loop
-Inv-loop states n others₀ codes₀ s₀ others codes s = (s ≤ n) × ((c : Tables) → c .states ≡ states → (others ≡ tally (other c) s) × (codes ≡ row (givenCode c) s))
+Inv-loop states n others₀ codes₀ s₀ others codes s = (s ≤ n) × ((c : Tables) → c .states ≡ states → (others ≡ tally (otherSubState c) s) × (codes ≡ row (givenCode c) s))
 
 abbrev μ-loop : tie.MeasureT-loop
 μ-loop states n others₀ codes₀ s₀ others codes s = n - s
@@ -22,7 +22,7 @@ laid-states-requires : tie.Need-laid-states-requires Inv-loop μ-loop
 laid-states-requires c κs = tt
 
 loop-holds : tie.Need-loop-holds Inv-loop μ-loop
-loop-holds c = (omega arith, λ c' e. (tally-start (other c'), row-start (givenCode c')))
+loop-holds c = (omega arith, λ c' e. (tally-start (otherSubState c'), row-start (givenCode c')))
 
 code-one-requires : tie.Need-code-one-requires Inv-loop μ-loop
 code-one-requires c κs = (omega arith, omega arith, c .before .before .before .loop .inv .1)

@@ -1,6 +1,6 @@
 use Rattle.meaning.specs.Tables.{initial}
 use Rattle.meaning.specs.Hierarchy.{subState}
-use Rattle.meaning.specs.Layout.{other}
+use Rattle.meaning.specs.Layout.{otherSubState}
 use borrow.Author.Tests.{eq-eqb, ne-eqb}
 use mathlib.Core.Bool.{and-false, and-true}
 use mathlib.Core.Path.{sym, _∙_}
@@ -16,7 +16,7 @@ initial-requires : tie.Need-initial-requires
 initial-requires c κs = search needs
 
 returns : tie.Need-returns
-unfolding other
+unfolding otherSubState
 returns c c' e =
     let g = c .before .before .before .args in
     rw (eq-eqb (g .s) (initial c' (g .a)) (c .if1 .taken ∙ c .before .initial .ensures c' e)) (sym (and-false (subState c' (g .a) (g .s))))
@@ -25,7 +25,7 @@ sub-state-requires : tie.Need-sub-state-requires
 sub-state-requires c κs = search needs
 
 returns-2 : tie.Need-returns-2
-unfolding other
+unfolding otherSubState
 returns-2 c c' e =
     let g = c .before .before .before .before .args in
     rw (ne-eqb (g .s) (initial c' (g .a)) (λ x. c .before .if1 .left (x ∙ sym (c .before .before .initial .ensures c' e))))

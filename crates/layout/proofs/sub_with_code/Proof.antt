@@ -1,8 +1,8 @@
 use Rattle.tables.specs.Given.{state-count}
 use Rattle.meaning.specs.Rows.{count}
-use Rattle.meaning.specs.RowsLaws.{least-at, least-none}
+use Rattle.meaning.specs.Laws.Rows.{least-at, least-none}
 use Rattle.meaning.specs.Tables.{Tables, stateCount}
-use Rattle.meaning.specs.Layout.{other}
+use Rattle.meaning.specs.Layout.{otherSubState}
 use Rattle.meaning.specs.Lent.{coded}
 use Prim.Native.Nat.{ℕ, _≤_, _<_, _-_, _/_}
 use lib.ListN.{length}
@@ -22,7 +22,7 @@ use Rattle.layout.proofs.other.Reads as other-reads
 abbrev Inv-loop : tie.InvT-loop
 Inv-loop states a k others₀ s₀ others s =
     (s ≤ length states / 2) × (others ≤ s)
-    × ((c : Tables) → c .states ≡ states → (others ≡ count (other c a) s) × ((j : ℕ) → j < s → coded c a k j ≡ false))
+    × ((c : Tables) → c .states ≡ states → (others ≡ count (otherSubState c a) s) × ((j : ℕ) → j < s → coded c a k j ≡ false))
 
 abbrev μ-loop : tie.MeasureT-loop
 μ-loop states a k others₀ s₀ others s = length states / 2 - s

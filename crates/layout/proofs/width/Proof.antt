@@ -1,5 +1,5 @@
 use Rattle.meaning.specs.Layout.{significantIn, significant, width}
-use Rattle.meaning.specs.LayoutLaws.{width-leading}
+use Rattle.meaning.specs.Laws.Layout.{width-leading}
 use Prim.Native.Nat.{_-_}
 use lib.Count.{leading-le}
 use mathlib.Core.Path.{_≡_}

@@ -1,7 +1,7 @@
 use native.Mathlib.Omega.{arith}
 use Prim.Native.Nat.{_-_}
 use borrow.Author.Tests.{le-leb, lt-leb}
-use Rattle.meaning.specs.BitLaws.{weight}
+use Rattle.meaning.specs.Laws.Bits.{weight}
 use Rattle.slices.specs.Numbers.{withNumber}
 use borrow.Author.Needs.{needs}
 use Rattle.slices.proofs.with_number.Statement.{statement}

@@ -1,4 +1,4 @@
-use Rattle.meaning.specs.Hierarchy.{leaf}
+use Rattle.meaning.specs.Hierarchy.{isLeaf}
 use lib.Dec.{eqb}
 use mathlib.Core.Path.{ap}
 use borrow.Author.Needs.{needs}
@@ -9,7 +9,7 @@ sub-states-requires : tie.Need-sub-states-requires
 sub-states-requires c κs = search needs
 
 returns : tie.Need-returns
-unfolding leaf
+unfolding isLeaf
 returns c c' e = ap (λ n. eqb n 0) (c .sub-states .ensures c' e)
 
 pub leaf-spec : {M : Type 1} → statement M

@@ -1,0 +1,5 @@
+pub mod Runs
+pub mod Once
+pub mod Steps
+pub mod StepLaws
+pub mod RunsLaws

@@ -1,0 +1,4 @@
+pub mod Words
+pub mod WordsLaws
+pub mod Once
+pub mod PlaceLaws

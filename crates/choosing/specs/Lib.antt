@@ -1,5 +1,0 @@
-pub mod Choice
-pub mod HoldLaws
-pub mod LinkLaws
-pub mod Once
-pub mod WidestLaws

@@ -1,0 +1,13 @@
+pub mod Automaton
+pub mod StepLaws
+pub mod Pieces
+pub mod Once
+pub mod Bare
+pub mod BareLaws
+pub mod Decimals
+pub mod Fields
+pub mod Lines
+pub mod Whole
+pub mod Reading
+pub mod Numbers
+pub mod Files

@@ -1,9 +1,0 @@
--- No second answer of which block a word calls.
-use mathlib.Core.Path.{_≡_}
-use Prim.Native.Nat.{ℕ}
-use Rattle.meaning.specs.Once.{Once, is-once}
-use Rattle.format.specs.Decode.{decoded}
-use Rattle.due.specs.Due.{due}
-
-pub word-due-once : (n w : ℕ) → Once (λ r. r ≡ due n (decoded w))
-word-due-once n w = is-once (due n (decoded w))

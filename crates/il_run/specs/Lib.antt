@@ -1,0 +1,10 @@
+pub mod Row
+pub mod RowLaws
+pub mod Body
+pub mod Lent
+pub mod LocalRow
+pub mod Once
+pub mod Runs
+pub mod RunLaws
+pub mod KeptLaws
+pub mod RunTheorems

@@ -1,5 +1,0 @@
-pub mod Runs
-pub mod RunLaws
-pub mod KeptLaws
-pub mod RunTheorems
-pub mod Once

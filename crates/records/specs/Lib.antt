@@ -1,6 +1,0 @@
-pub mod Automaton
-pub mod StepLaws
-pub mod Pieces
-pub mod Once
-pub mod Bare
-pub mod BareLaws

@@ -1,3 +1,0 @@
-pub mod Rungs
-pub mod RungLaws
-pub mod Once

@@ -1,3 +1,0 @@
-pub mod Sections
-pub mod SectionLaws
-pub mod Once

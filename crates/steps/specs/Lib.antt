@@ -1,4 +1,0 @@
-pub mod Steps
-pub mod StepLaws
-pub mod RunsLaws
-pub mod Once

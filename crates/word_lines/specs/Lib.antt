@@ -1,2 +1,0 @@
-pub mod ByNumbers
-pub mod Once

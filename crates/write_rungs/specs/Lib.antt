@@ -1,0 +1,5 @@
+pub mod Rungs
+pub mod RungLaws
+pub mod Once
+pub mod Sections
+pub mod SectionLaws

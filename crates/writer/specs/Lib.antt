@@ -1,3 +1,0 @@
-pub mod Wrote
-pub mod TextLaws
-pub mod Once
