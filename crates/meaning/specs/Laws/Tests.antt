@@ -112,7 +112,7 @@ module _ (x : ℕ) (k : Controller) where
 
 -- ---- a state's tests
 
--- what a state remembers leads to sub-states, as the laws of FollowLaws ask
+-- what a state remembers leads to sub-states, as Laws/Follow.antt asks
 pub valid-leads : (c : Tables) → Rules c → (s : State) → Valid c s → Leads c (remembered (s .memory))
 valid-leads c R s v a e = v .leads a (super-known c R a e) (no-leaf-tells c a .0 e)
 
