@@ -6,7 +6,13 @@ ghost use mathlib.Core.Path.{_≡_};
 ghost use Rattle.format.specs.Decode.{unpacked, decoded};
 
 // LD 1, LDN 2, AND 3, ANDN 4: "Tests are on %IX1 to %IX64, %MX0 to %MX255, declared Tn.Q; .. TRUE and FALSE after LD
-// only". Each arm answers at once: so the compiler puts the decoder into the loop of the scan.
+// only". OR( 5, ) 6, ST 7, S 8, R 9, CAL 10, LD of a time 11: "stores reach the same %MX and %QX1 to %QX64", and IN
+// and PT of a block.
+//
+// Do not split this function: all operators stand in it, and each arm answers at once with `return`. So the compiler
+// puts the decoder into the loop of the scan and goes from an arm straight to the code that runs its operator. Split in
+// two, it makes the decoded instruction first and then jumps again on its tag: one indirect jump more for each word.
+// docs/PERFORMANCE.md has both figures.
 fn unpack(k: u32, m: u32) -> Decoded
     ensures { λ r. ⌜ r ≡ unpacked k m ⌝ }
 {
@@ -37,16 +43,6 @@ fn unpack(k: u32, m: u32) -> Decoded
             769..=800 => return Decoded::Known(Operator::Andn(Operand::TimerQ((m - 768) as u16))),
             _ => return Decoded::Unknown,
         },
-        _ => return other_of(k, m),
-    }
-}
-
-// OR( 5, ) 6, ST 7, S 8, R 9, CAL 10, LD of a time 11: "stores reach the same %MX and %QX1 to %QX64", and IN and PT
-// of a block.
-fn other_of(k: u32, m: u32) -> Decoded
-    ensures { λ r. ⌜ ((k ≡ 1 → ⊥) → (k ≡ 2 → ⊥) → (k ≡ 3 → ⊥) → (k ≡ 4 → ⊥) → r ≡ unpacked k m) ⌝ }
-{
-    match k {
         5 => match m {
             0 => return Decoded::Known(Operator::Or),
             _ => return Decoded::Unknown,
