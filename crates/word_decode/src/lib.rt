@@ -11,7 +11,7 @@ ghost use Rattle.format.specs.Decode.{unpacked, decoded};
 //
 // Do not split this function: all operators stand in it, and each arm answers at once with `return`. So the compiler
 // puts the decoder into the loop of the scan and goes from an arm straight to the code that runs its operator. Split in
-// two, it makes the decoded instruction first and then jumps again on its tag: one indirect jump more for each word.
+// two, it makes the decoded instruction first and then jumps again on its tags: 20 indirect jumps in the scan, not 1.
 // docs/PERFORMANCE.md has both figures.
 fn unpack(k: u32, m: u32) -> Decoded
     ensures { λ r. ⌜ r ≡ unpacked k m ⌝ }
