@@ -38,7 +38,7 @@ struct splicetuck_answer {
     uint64_t length;
 };
 
-/* The tables are lent to six calls, always as the same thirteen arguments:
+/* The tables are lent to seven calls, always as the same thirteen arguments:
  * step          scan step in ms, 1 to 1,000
  * inputs        how many inputs, at most 64
  * outputs       how many outputs, at most 64
@@ -51,6 +51,39 @@ struct splicetuck_answer {
 /* Checks the tables.
  * Refusals: 1 to 11 in this order. Writes nothing; length is 0. */
 struct splicetuck_answer splicetuck_check(
+    uint32_t step, uint32_t inputs, uint32_t outputs,
+    const uint16_t *states, size_t states_len,
+    const int16_t *moves, size_t moves_len,
+    const uint32_t *presets, size_t presets_len,
+    const uint16_t *timer_pairs, size_t timer_pairs_len,
+    const uint16_t *output_pairs, size_t output_pairs_len);
+
+/* What the check with a witness answers.
+ * number, place: as in struct splicetuck_answer.
+ * For OVERLAP:
+ * earlier: the least earlier move that overlaps move `place`.
+ * state: the lower of the two sources (the larger number), in which, and in
+ * every leaf below it, both moves are enabled with the following on and off.
+ * inputs_on, timers_on: what both moves together need on; inputs_off,
+ * timers_off: what they need off. Input i is the bit of weight 2^(i-1), timer t
+ * that of weight 2^(t-1); a timer is on when it is expired. What is in neither
+ * set may be on or off. Timers are taken as free, whatever their presets.
+ * All but number and place are 0 for every other number. */
+struct splicetuck_witness {
+    uint32_t number;
+    uint64_t place;
+    uint64_t earlier;
+    uint64_t state;
+    uint64_t inputs_on;
+    uint64_t inputs_off;
+    uint64_t timers_on;
+    uint64_t timers_off;
+};
+
+/* Checks the tables as splicetuck_check does, and of an overlap tells the two
+ * moves, where both are enabled and by what.
+ * Refusals: 1 to 11 in this order. Writes nothing. */
+struct splicetuck_witness splicetuck_check_witness(
     uint32_t step, uint32_t inputs, uint32_t outputs,
     const uint16_t *states, size_t states_len,
     const int16_t *moves, size_t moves_len,

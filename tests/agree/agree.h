@@ -129,6 +129,10 @@ struct draft {
  * The draft is valid until the next call. */
 const struct draft *any_tables(uint32_t broken);
 
+/* Tables in which OVERLAP is frequent and most other rules hold; valid as
+ * long. */
+const struct draft *any_overlaps(void);
+
 unsigned depth_of(const struct draft *d, unsigned s);
 unsigned flip_flops_of(const struct draft *d);
 

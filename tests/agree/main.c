@@ -58,12 +58,12 @@ static void compare_call(const struct plan *p, const struct call *call,
 
 static void print_tallies(const struct tally *tallies)
 {
-    printf("%-12s %8s", "number", "cases");
+    printf("%-13s %8s", "number", "cases");
     for (unsigned n = 0; n < NUMBERS; n++)
         printf(" %7u", n);
     printf("\n");
     for (size_t i = 0; i < CALL_COUNT; i++) {
-        printf("%-12s %8" PRIu64, calls[i]->name, tallies[i].cases);
+        printf("%-13s %8" PRIu64, calls[i]->name, tallies[i].cases);
         for (unsigned n = 0; n < NUMBERS; n++)
             if (calls[i]->gives & GIVES(n))
                 printf(" %7" PRIu64, tallies[i].seen[n]);

@@ -738,6 +738,66 @@ const struct draft *any_tables(uint32_t broken)
     return once_in(broken) ? any_broken_tables() : any_accepted_chart();
 }
 
+/* ---- Overlaps ---- */
+
+/* A move of no plan: literals of things that it may ask about, the last ones
+ * more often. */
+static void add_any_move(struct draft *d)
+{
+    unsigned source = below(facts.states);
+    struct cube c = {.n = 0};
+    for (uint32_t tries = below(once_in(3) ? 20 : 4); tries > 0; tries--) {
+        uint32_t timers = (uint32_t)d->t.presets_len, inputs = d->t.inputs;
+        uint32_t timer = once_in(3) ? timers : 1 + below(timers);
+        int literal = inputs == 0 ? 0 : once_in(8) ? (int)inputs
+                                                   : 1 + (int)below(inputs);
+        if (timers > 0 && once_in(2)
+            && facts.everywhere[source] >> (timer - 1) & 1)
+            literal = 100 + (int)timer;
+        if (literal != 0)
+            add_literal(&c, once_in(2) ? literal : -literal);
+    }
+    add_move(d, source, c);
+}
+
+/* A move that meets more of the others: a literal less, a literal turned round,
+ * or another source on its path. */
+static void widen_move(struct draft *d)
+{
+    int16_t *row = any_move(d);
+    unsigned n = literals_of(row), some = n == 0 ? 0 : below(n);
+    unsigned s = below(facts.states);
+    switch (below(4)) {
+    case 0:
+    case 1:
+        if (n == 0)
+            break;
+        row[HEAD + some] = row[HEAD + n - 1];
+        row[HEAD + n - 1] = 0;
+        break;
+    case 2: row[HEAD + some] = (int16_t)-row[HEAD + some]; break;
+    default:
+        if (at_or_above(d, (unsigned)row[0], s) || once_in(4))
+            row[0] = (int16_t)s;
+        break;
+    }
+}
+
+const struct draft *any_overlaps(void)
+{
+    struct draft *d = any_accepted_chart();
+    if (once_in(4)) /* none of the moves that were kept apart */
+        d->t.moves_len = 0;
+    for (uint32_t i = 1 + below(once_in(3) ? 20 : 3); i > 0; i--)
+        if (once_in(2))
+            add_any_move(d);
+        else
+            widen_move(d);
+    if (once_in(4))
+        break_overlap(d);
+    return d;
+}
+
 /* ---- Instruction words ---- */
 
 enum operator {

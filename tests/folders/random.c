@@ -1,9 +1,11 @@
-/* random OUT COUNT BASE..: makes COUNT folders OUT/0, OUT/1, .., each the seven files of one of the folders BASE, dressed
- * as a spreadsheet might (quotes, CR LF, a last record without its end) and, every second one, damaged by a few edits.
+/* random [--loose] OUT COUNT BASE..: makes COUNT folders OUT/0, OUT/1, .., each the seven files of one of the folders BASE,
+ * dressed as a spreadsheet might (quotes, CR LF, a last record without its end) and, every second one, damaged by a few
+ * edits; with --loose none is damaged, but literals of their moves are left out or turned round, so that many overlap.
  * The numbers come from a fixed seed, so that every run makes the same folders. */
 #include <stdint.h>
 #include <stdio.h>
 #include <stdlib.h>
+#include <string.h>
 #include <sys/stat.h>
 
 static const char *const names[7] = {
@@ -103,20 +105,57 @@ static void damage(struct bytes *b)
     }
 }
 
+/* The last literal of a move left out, or some literal turned round. Works on bare fields and rows that LF ends. */
+static void loosen(struct bytes *b)
+{
+    static char text[ROOM + 1];
+    char *row = text;
+    unsigned rows = 0, columns[11], used = 0;
+    for (size_t i = 0; i < b->len; i++)
+        rows += b->at[i] == '\n';
+    memcpy(text, b->at, b->len);
+    text[b->len] = '\0';
+    for (unsigned i = rows == 0 ? 0 : below(rows); i > 0; i--)
+        row = strchr(row, '\n') + 1;
+    char *end = row;
+    int numbers[11] = {0};
+    for (unsigned k = 0; k < 11 && *end != '\0'; k++, end++) { /* over the comma, or the LF */
+        numbers[k] = (int)strtol(end, &end, 10);
+        if (k >= 3 && numbers[k] != 0)
+            columns[used++] = k;
+    }
+    if (used == 0)
+        return;
+    if (below(2) == 0)
+        numbers[columns[used - 1]] = 0;
+    else
+        numbers[columns[below(used)]] *= -1;
+    b->len = (size_t)(row - text);
+    for (unsigned k = 0; k < 11; k++)
+        b->len += (size_t)sprintf(b->at + b->len, "%d%c", numbers[k], k < 10 ? ',' : '\n');
+    for (; *end != '\0'; end++)
+        put(b, *end);
+}
+
 int main(int argc, char **argv)
 {
     static struct bytes plain, dressed;
+    int loose = argc > 1 && strcmp(argv[1], "--loose") == 0;
+    argc -= loose;
+    argv += loose;
     if (argc < 4)
         return 2;
     for (int n = 0; n < atoi(argv[2]); n++) {
         const char *base = argv[3 + below((unsigned)argc - 3)];
-        unsigned hurt = n % 2 == 0 ? 7 : below(7);
+        unsigned hurt = n % 2 == 0 || loose ? 7 : below(7);
         char folder[4000];
         snprintf(folder, sizeof folder, "%s/%d", argv[1], n);
         if (mkdir(folder, 0777) != 0)
             return 2;
         for (unsigned k = 0; k < 7; k++) {
             load(base, names[k], &plain);
+            for (unsigned j = loose && k == 2 ? 1 + below(3) : 0; j > 0; j--)
+                loosen(&plain);
             dress(&plain, &dressed);
             for (unsigned j = hurt == k ? 1 + below(3) : 0; j > 0; j--)
                 damage(&dressed);

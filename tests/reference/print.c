@@ -1,5 +1,5 @@
 /* What the program prints for the contents of its seven files. */
-#include "tables.h"
+#include "files.h"
 
 #include <inttypes.h>
 #include <stdio.h>
@@ -16,12 +16,6 @@ static const size_t number_size[7] = {
     [REF_SCANWORDS] = sizeof(uint64_t),
 };
 
-/* The numbers of the seven files. */
-struct contents {
-    void *numbers[7];
-    size_t counts[7];
-};
-
 static void *need(size_t n)
 {
     void *p = malloc(n == 0 ? 1 : n);
@@ -31,9 +25,10 @@ static void *need(size_t n)
 }
 
 /* "FIELD comes before all, file by file in the order of the program section." */
-static struct ref_answer read_files(const uint8_t *const files[7],
-                                    const size_t lens[7], struct contents *all)
+struct ref_answer ref_read_files(const uint8_t *const files[7],
+                                 const size_t lens[7], struct ref_contents *all)
 {
+    *all = (struct ref_contents){.counts = {0}};
     for (int kind = 0; kind < 7; kind++) {
         /* A number takes at least a byte of its file. */
         all->numbers[kind] = need(lens[kind] * number_size[kind]);
@@ -47,7 +42,13 @@ static struct ref_answer read_files(const uint8_t *const files[7],
     return ref_accepted(0);
 }
 
-static struct ref_tables tables_of(const struct contents *all)
+void ref_free_files(struct ref_contents *all)
+{
+    for (int kind = 0; kind < 7; kind++)
+        free(all->numbers[kind]);
+}
+
+struct ref_tables ref_tables_of(const struct ref_contents *all)
 {
     const uint32_t *frame = all->numbers[REF_FRAME];
     return (struct ref_tables){
@@ -89,7 +90,7 @@ static size_t print_scans(const struct ref_tables *t, const uint64_t *inputs,
     return n;
 }
 
-static size_t print_refusal(struct ref_answer answer, uint8_t *out)
+size_t ref_print_refusal(struct ref_answer answer, uint8_t *out)
 {
     char line[64];
     int len = snprintf(line, sizeof line, "REFUSED,%" PRIu32 ",%" PRIu64 "\n",
@@ -102,10 +103,10 @@ struct ref_answer ref_print(const uint8_t *const files[7],
                             const size_t lens[7],
                             uint8_t *out, size_t *out_len)
 {
-    struct contents all = {.counts = {0}};
-    struct ref_answer answer = read_files(files, lens, &all);
+    struct ref_contents all;
+    struct ref_answer answer = ref_read_files(files, lens, &all);
     if (answer.number == REF_ACCEPTED) {
-        struct ref_tables t = tables_of(&all);
+        struct ref_tables t = ref_tables_of(&all);
         answer = ref_write_tables(&t, out, MOST_TEXT);
         if (answer.number == REF_ACCEPTED) {
             size_t text = (size_t)answer.length;
@@ -116,8 +117,7 @@ struct ref_answer ref_print(const uint8_t *const files[7],
         }
     }
     if (answer.number != REF_ACCEPTED)
-        *out_len = print_refusal(answer, out);
-    for (int kind = 0; kind < 7; kind++)
-        free(all.numbers[kind]);
+        *out_len = ref_print_refusal(answer, out);
+    ref_free_files(&all);
     return answer;
 }

@@ -67,6 +67,21 @@ struct ref_block {
 /* Refusals 1 to 11, or accepted with length 0. */
 struct ref_answer ref_check(const struct ref_tables *tables);
 
+/* The same, and of an OVERLAP what shows it. earlier: the least earlier move
+ * that overlaps move `place`. state: the lower of the two sources. inputs_on and
+ * timers_on: what both moves together need on, the other two what they need
+ * off; input i, timer n the bit of weight 2^(i-1), 2^(n-1). All are 0 for every
+ * other number. */
+struct ref_witness {
+    uint32_t number;
+    uint64_t place;
+    uint64_t earlier, state;
+    uint64_t inputs_on, inputs_off;
+    uint64_t timers_on, timers_off;
+};
+
+struct ref_witness ref_check_witness(const struct ref_tables *tables);
+
 /* The chart's text. 1 to 11, then ROOM with the bytes needed; else length is
  * the bytes written. */
 struct ref_answer ref_write_tables(const struct ref_tables *tables,
@@ -166,6 +181,21 @@ struct ref_answer ref_read_records(enum ref_kind kind,
  * for REF_PRINT_MOST bytes and *out_len is set to the bytes printed, refused or
  * not. The answer is the program's: 0, or the number and place it printed. */
 struct ref_answer ref_print(const uint8_t *const files[7],
+                            const size_t lens[7],
+                            uint8_t *out, size_t *out_len);
+
+/* The most that ref_needs writes: the first line of 48 bytes, 512 moves of at
+ * most 92 ("511", nine states up to the root, a target of three digits, eight
+ * names of five bytes), an OVERLAP line of at most 118 (sixteen names) and the
+ * last one of at most 15. */
+#define REF_NEEDS_MOST ((size_t)48 + 512 * 92 + 118 + 15)
+
+/* All that the program prints on standard output with --needs: what each move
+ * needs on and off, an overlap that refuses the chart, and the answer. Of FIELD
+ * and 1 to 8 only one REFUSED line. `out` must have room for REF_NEEDS_MOST
+ * bytes and *out_len is set to the bytes printed, refused or not. The answer is
+ * the program's: 0, or the number and place it printed; no ROOM. */
+struct ref_answer ref_needs(const uint8_t *const files[7],
                             const size_t lens[7],
                             uint8_t *out, size_t *out_len);
 

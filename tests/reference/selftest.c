@@ -141,6 +141,12 @@ void expect_tables_refused(const struct ref_tables *t, uint32_t number,
     };
     for (size_t i = 0; i < sizeof all / sizeof all[0]; i++)
         expect_at(same(all[i], number, place, 0), "tables refused", file, line);
+    struct ref_witness w = ref_check_witness(&e);
+    expect_at(w.number == number && w.place == place, "the witness's refusal",
+              file, line);
+    if (number != REF_OVERLAP)
+        expect_witness(&e, (struct ref_witness){.number = number,
+                                                .place = place}, file, line);
     bool kept = leaves[0] == 777 && outputs[0] == 7777;
     for (int i = 0; i < 4; i++)
         kept = kept && state[i] == 7 && bytes[i] == 9;
@@ -182,6 +188,8 @@ int main(void)
     test_text();
     test_records();
     test_random();
+    test_witness();
+    test_needs();
     printf("%lu checks, %lu failures\n", checks, failures);
     return failures == 0 ? EXIT_SUCCESS : EXIT_FAILURE;
 }

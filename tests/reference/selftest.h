@@ -63,6 +63,25 @@ uint32_t *words_of_chart(const struct ref_tables *t, size_t *n);
 /* And its text, on the heap, with a 0 after it. */
 char *text_of_chart(const struct ref_tables *t, size_t *n);
 
+/* Random tables (selftest_random.c): states, timers and pairs without moves, of
+ * at most 6 inputs and 3 timers; and one move more, in which the first `whole`
+ * inputs always stand. */
+struct draft *any_frame(unsigned n);
+void any_move(struct draft *d, unsigned n, unsigned whole);
+
+/* The plain definitions: a state on the path to another; the literals of a move
+ * under a setting; two moves of a random frame under each of its settings. */
+bool at_or_above(const struct draft *d, unsigned above, unsigned s);
+bool is_leaf(const struct draft *d, unsigned s);
+bool holds(const int16_t *row, uint64_t inputs, uint64_t timers);
+bool overlap(const struct draft *d, const int16_t *a, const int16_t *b);
+
+/* The witness as it is due, all of it. */
+void expect_witness(const struct ref_tables *t, struct ref_witness due,
+                    const char *file, int line);
+#define EXPECT_WITNESS(t, ...) \
+    expect_witness((t), (struct ref_witness){__VA_ARGS__}, __FILE__, __LINE__)
+
 /* The parts. */
 void test_examples(void);
 void test_refusals(void);
@@ -70,5 +89,7 @@ void test_readings(void);
 void test_text(void);
 void test_records(void);
 void test_random(void);
+void test_witness(void);
+void test_needs(void);
 
 #endif

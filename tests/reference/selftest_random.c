@@ -51,7 +51,7 @@ static void any_pairs(struct draft *d, unsigned n, unsigned firsts, bool timers)
 
 /* The first `whole` inputs are always in it, on or off: moves that differ there
  * do not overlap, so that many can be kept and many are enabled. */
-static void any_move(struct draft *d, unsigned n, unsigned whole)
+void any_move(struct draft *d, unsigned n, unsigned whole)
 {
     int16_t row[11] = {0};
     unsigned inputs = d->t.inputs, timers = (unsigned)d->t.presets_len, k = 3;
@@ -73,7 +73,7 @@ static void any_move(struct draft *d, unsigned n, unsigned whole)
 }
 
 /* A draft whose moves are not checked yet. */
-static struct draft *any_frame(unsigned n)
+struct draft *any_frame(unsigned n)
 {
     static const uint32_t steps[] = {1, 7, 100, 999, 1000};
     uint32_t step = steps[below(5)], inputs = below(7);
@@ -106,18 +106,18 @@ static struct draft *any_chart(unsigned n, unsigned tries)
 
 /* ---- OVERLAP and IDLE TIMER by their definitions ---- */
 
-static bool at_or_above(const struct draft *d, unsigned above, unsigned s)
+bool at_or_above(const struct draft *d, unsigned above, unsigned s)
 {
     while (s != above && s != 0)
         s = d->states[2 * s];
     return s == above;
 }
 
-static bool holds(const int16_t *row, unsigned inputs, unsigned timers)
+bool holds(const int16_t *row, uint64_t inputs, uint64_t timers)
 {
     for (int i = 3; i < 11 && row[i] != 0; i++) {
         unsigned size = (unsigned)abs(row[i]);
-        unsigned on = size < 100 ? inputs >> (size - 1) & 1
+        uint64_t on = size < 100 ? inputs >> (size - 1) & 1
                                  : timers >> (size - 101) & 1;
         if (on != (row[i] > 0))
             return false;
@@ -125,7 +125,7 @@ static bool holds(const int16_t *row, unsigned inputs, unsigned timers)
     return true;
 }
 
-static bool overlap(const struct draft *d, const int16_t *a, const int16_t *b)
+bool overlap(const struct draft *d, const int16_t *a, const int16_t *b)
 {
     if (!at_or_above(d, (unsigned)a[0], (unsigned)b[0])
         && !at_or_above(d, (unsigned)b[0], (unsigned)a[0]))
@@ -137,7 +137,7 @@ static bool overlap(const struct draft *d, const int16_t *a, const int16_t *b)
     return false;
 }
 
-static bool is_leaf(const struct draft *d, unsigned s)
+bool is_leaf(const struct draft *d, unsigned s)
 {
     return d->states[2 * s + 1] == 0;
 }

@@ -1,6 +1,9 @@
-/* show FOLDER       prints what the program prints for the seven files there.
- * show -c FOLDER    compares that with FOLDER/expected, and compares the chart's
- *                   run with the run of the printed text and with ref_history.
+/* show FOLDER           prints what the program prints for the seven files there.
+ * show --needs FOLDER   prints what it prints with that option.
+ * show -c FOLDER        compares the first with FOLDER/expected, and the second
+ *                       with FOLDER/expected-needs if that is there, and compares
+ *                       the chart's run with the run of the printed text and with
+ *                       ref_history.
  * Leans on the reference. */
 #include "reference.h"
 
@@ -119,32 +122,78 @@ static int runs_agree(uint8_t *const files[7], const size_t lens[7])
            && memcmp(out_a, out_c, scans * sizeof *out_a) == 0;
 }
 
+/* What one of ref_print and ref_needs prints. */
+struct printed {
+    uint8_t *bytes;
+    size_t len;
+    struct ref_answer answer;
+};
+
+static struct printed printed(uint8_t *const files[7], const size_t lens[7],
+                              int needs)
+{
+    struct printed p = {.bytes = need(needs ? REF_NEEDS_MOST : REF_PRINT_MOST)};
+    const uint8_t *lent[7];
+    for (int k = 0; k < 7; k++)
+        lent[k] = files[k];
+    p.answer = (needs ? ref_needs : ref_print)(lent, lens, p.bytes, &p.len);
+    return p;
+}
+
+/* Is it what stands in that file of the folder? */
+static int is_due(const char *folder, const char *name,
+                  const struct printed *p)
+{
+    size_t len;
+    uint8_t *due = whole(folder, name, &len);
+    int same = len == p->len && memcmp(due, p->bytes, len) == 0;
+    free(due);
+    return same;
+}
+
+static int is_there(const char *folder, const char *name)
+{
+    char path[4096];
+    snprintf(path, sizeof path, "%s/%s", folder, name);
+    FILE *f = fopen(path, "rb");
+    if (f != NULL)
+        fclose(f);
+    return f != NULL;
+}
+
+static int check(const char *folder, uint8_t *const files[7],
+                 const size_t lens[7])
+{
+    struct printed text = printed(files, lens, 0);
+    struct printed needs = printed(files, lens, 1);
+    int told = is_there(folder, "expected-needs");
+    int same = is_due(folder, "expected", &text);
+    int same_needs = !told || is_due(folder, "expected-needs", &needs);
+    int agree = text.answer.number != 0 || runs_agree(files, lens);
+    printf("%s: number %" PRIu32 " place %" PRIu64 ", %zu bytes, expected %s, "
+           "runs %s, expected-needs %s\n", folder, text.answer.number,
+           text.answer.place, text.len, same ? "same" : "DIFFERS",
+           agree ? "agree" : "DISAGREE",
+           !told ? "not there" : same_needs ? "same" : "DIFFERS");
+    return same && same_needs && agree ? 0 : 1;
+}
+
 int main(int argc, char **argv)
 {
-    int check = argc == 3 && strcmp(argv[1], "-c") == 0;
-    if (argc != 2 + check) {
-        fprintf(stderr, "show [-c] FOLDER\n");
+    int checks = argc == 3 && strcmp(argv[1], "-c") == 0;
+    int needs = argc == 3 && strcmp(argv[1], "--needs") == 0;
+    if (argc != 2 + checks + needs) {
+        fprintf(stderr, "show [-c | --needs] FOLDER\n");
         return 2;
     }
-    const char *folder = argv[1 + check];
+    const char *folder = argv[argc - 1];
     uint8_t *files[7];
-    const uint8_t *lent[7];
     size_t lens[7];
     for (int k = 0; k < 7; k++)
-        lent[k] = files[k] = whole(folder, names[k], &lens[k]);
-    uint8_t *out = need(REF_PRINT_MOST);
-    size_t out_len = 0;
-    struct ref_answer a = ref_print(lent, lens, out, &out_len);
-    if (!check) {
-        fwrite(out, 1, out_len, stdout);
-        return 0;
-    }
-    size_t due_len;
-    uint8_t *due = whole(folder, "expected", &due_len);
-    int same = due_len == out_len && memcmp(due, out, out_len) == 0;
-    int agree = a.number != 0 || runs_agree(files, lens);
-    printf("%s: number %" PRIu32 " place %" PRIu64 ", %zu bytes, expected %s, "
-           "runs %s\n", folder, a.number, a.place, out_len,
-           same ? "same" : "DIFFERS", agree ? "agree" : "DISAGREE");
-    return same && agree ? 0 : 1;
+        files[k] = whole(folder, names[k], &lens[k]);
+    if (checks)
+        return check(folder, files, lens);
+    struct printed p = printed(files, lens, needs);
+    fwrite(p.bytes, 1, p.len, stdout);
+    return 0;
 }

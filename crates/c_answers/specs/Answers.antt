@@ -18,7 +18,9 @@ use Rattle.il_run.specs.declared.Scanned.{Scanned as ScanAnswer}
 use Rattle.il_run.specs.declared.Scanned.the-variants as O
 use Rattle.roundtrip_call.specs.declared.WrittenRun.{WrittenRun}
 use Rattle.roundtrip_call.specs.declared.WrittenRun.the-variants as K
+use Rattle.check_witness.specs.declared.Witness.{Witness}
 use Rattle.c_answers.specs.declared.CAnswer.{CAnswer}
+use Rattle.c_answers.specs.declared.CWitness.{CWitness}
 use Rattle.c_answers.specs.declared.CStep.{CStep}
 use Rattle.c_answers.specs.declared.CScan.{CScan}
 use Rattle.c_answers.specs.declared.ControllerSizes.{ControllerSizes}
@@ -27,6 +29,17 @@ pub record Told (v : Verdict) (n : ℕ) (a : CAnswer) : Type 0 where
   pub number : a .number ≡ verdictNumber v
   pub place : a .place ≡ verdictPlace v
   pub length : a .length ≡ n
+
+-- a check with a witness tells its verdict, and what is shown
+pub record WitnessTold (w : Witness) (a : CWitness) : Type 0 where
+  pub number : a .number ≡ verdictNumber (w .verdict)
+  pub place : a .place ≡ verdictPlace (w .verdict)
+  pub earlier : a .earlier ≡ w .earlier
+  pub state : a .state ≡ w .state
+  pub inputsOn : a .«inputs_on» ≡ w .on .inputs
+  pub inputsOff : a .«inputs_off» ≡ w .off .inputs
+  pub timersOn : a .«timers_on» ≡ w .on .timers
+  pub timersOff : a .«timers_off» ≡ w .off .timers
 
 -- a run that was done tells how many scans there were
 abbrev pub RanTold : Ran → CAnswer → Type 0

@@ -24,7 +24,8 @@ use Rattle.roundtrip_call.specs.declared.WrittenRun.{WrittenRun}
 use Rattle.roundtrip_call.specs.declared.WrittenRun.the-variants as K
 use Rattle.csv_file.specs.declared.FileRead.{FileRead as FileAnswer}
 use Rattle.csv_file.specs.declared.FileRead.the-variants as F
-use Rattle.c_answers.specs.Answers.{Told, RanTold, StepGiven, StepTold, WrittenTold, SizesGiven, SizesTell, ReadTold, ScanGiven, ScanTold, OutcomeTold}
+use Rattle.check_witness.specs.declared.Witness.{Witness}
+use Rattle.c_answers.specs.Answers.{Told, WitnessTold, RanTold, StepGiven, StepTold, WrittenTold, SizesGiven, SizesTell, ReadTold, ScanGiven, ScanTold, OutcomeTold}
 use Rattle.c_answers.specs.Files.{fileOf, RecordsTold}
 
 -- ---- number, place and length
@@ -44,6 +45,18 @@ accepted-once n = told-once G.Accepted n
 
 pub tell-once : (v : Verdict) → Once (λ a. Told v 0 a)
 tell-once v = told-once v 0
+
+pub tell-witness-once : (w : Witness) → Once (λ a. WitnessTold w a)
+tell-witness-once w a b p q = λ i. record {
+  number = (p .number ∙ sym (q .number)) i;
+  place = (p .place ∙ sym (q .place)) i;
+  earlier = (p .earlier ∙ sym (q .earlier)) i;
+  state = (p .state ∙ sym (q .state)) i;
+  «inputs_on» = (p .inputsOn ∙ sym (q .inputsOn)) i;
+  «inputs_off» = (p .inputsOff ∙ sym (q .inputsOff)) i;
+  «timers_on» = (p .timersOn ∙ sym (q .timersOn)) i;
+  «timers_off» = (p .timersOff ∙ sym (q .timersOff)) i;
+}
 
 pub tell-run-once : (r : Ran) → Once (λ a. RanTold r a)
 tell-run-once (R.Done n) = accepted-once n

@@ -1,5 +1,6 @@
 // Answers told in document 01's numbers: what the calls for C answer, as structs that C has too.
 use chart_calls::Stepped;
+use check_witness::Witness;
 use csv_file::File;
 use format::Written;
 use il_sizes::Sizes;
@@ -11,7 +12,7 @@ ghost use mathlib.Core.Path.{_≡_};
 ghost use lib.Dec.{leb};
 ghost use Rattle.meaning.specs.declared.Verdict.{Verdict};
 ghost use Rattle.c_answers.specs.Answers.{Told, RanTold, StepTold, WrittenTold, SizesTell, ReadTold, ScanTold};
-ghost use Rattle.c_answers.specs.Answers.{OutcomeTold};
+ghost use Rattle.c_answers.specs.Answers.{OutcomeTold, WitnessTold};
 ghost use Rattle.c_answers.specs.Files.{fileOf, RecordsTold};
 
 // Document 01's number of the answer, its place, and how much was written.
@@ -51,6 +52,37 @@ pub fn tell(v: Verdict) -> CAnswer
     match v {
         Verdict::Accepted => accepted(0),
         Verdict::Refused(r) => refused(r),
+    }
+}
+
+// Document 01's number of the verdict and its place; for an OVERLAP what check_witness shows, else 0.
+#[repr(C)]
+pub struct CWitness {
+    pub number: u32,
+    pub place: u64,
+    pub earlier: u64,
+    pub state: u64,
+    pub inputs_on: u64,
+    pub inputs_off: u64,
+    pub timers_on: u64,
+    pub timers_off: u64,
+}
+
+// Of a check with a witness, the verdict and what is shown.
+pub fn tell_witness(w: Witness) -> CWitness
+    ensures { λ a. ⌜ WitnessTold w a ⌝ }
+{
+    let v = w.verdict;
+    let a = tell(v);
+    CWitness {
+        number: a.number,
+        place: a.place as u64,
+        earlier: w.earlier as u64,
+        state: w.state as u64,
+        inputs_on: w.on.inputs,
+        inputs_off: w.off.inputs,
+        timers_on: w.on.timers,
+        timers_off: w.off.timers,
     }
 }
 

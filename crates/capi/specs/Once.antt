@@ -9,6 +9,9 @@ use Rattle.meaning.specs.Check.{verdict}
 use Rattle.meaning.specs.Scan.{Controller as Lent}
 use Rattle.meaning.specs.declared.Block.{Block}
 use Rattle.meaning.specs.declared.Ran.{Ran}
+use Rattle.check_witness.specs.Shown.{Witnessed}
+use Rattle.check_witness.specs.Once.{check-once}
+use Rattle.check_witness.specs.declared.Witness.{Witness}
 use Rattle.chart_calls.specs.Runs.{ChartRan, one-run}
 use Rattle.chart_calls.specs.Steps.{ChartStepped, one-step}
 use Rattle.chart_calls.specs.declared.Stepped.{Stepped}
@@ -30,8 +33,8 @@ use Rattle.c_answers.specs.declared.CScan.{CScan}
 use Rattle.capi.specs.Files.{KindRead, kind-read-same}
 use Rattle.il_scan.specs.Scans.{controllerOf}
 use Rattle.capi.specs.Lengths.{LengthTold}
-use Rattle.c_answers.specs.Answers.{Told, RanTold, StepTold, WrittenTold, SizesTell, ReadTold, ScanTold, OutcomeTold}
-use Rattle.c_answers.specs.Once.{told-once, tell-once, tell-run-once, tell-step-once, tell-written-once, tell-sizes-once, tell-read-once, tell-scan-once, tell-outcome-once}
+use Rattle.c_answers.specs.Answers.{Told, WitnessTold, RanTold, StepTold, WrittenTold, SizesTell, ReadTold, ScanTold, OutcomeTold}
+use Rattle.c_answers.specs.Once.{told-once, tell-once, tell-witness-once, tell-run-once, tell-step-once, tell-written-once, tell-sizes-once, tell-read-once, tell-scan-once, tell-outcome-once}
 
 -- one outcome, told in one way
 same-told : {R A : Type 0} (T : R → A → Type 0) → ((r : R) (a b : A) → T r a → T r b → a ≡ b) → {r s : R} {a b : A} → r ≡ s → T r a → T s b → a ≡ b
@@ -41,6 +44,9 @@ same-told T told {r} {s} {a} {b} e t u = told s a b (subst (λ z. T z a) e t) u
 
 pub splicetuck-check-once : (c : Tables) → Once (λ a. Told (verdict c) 0 a)
 splicetuck-check-once c = tell-once (verdict c)
+
+pub splicetuck-check-witness-once : (c : Tables) → Once (λ a. (w : Witness) × Witnessed c w × WitnessTold w a)
+splicetuck-check-witness-once c x y (w, p, t) (v, q, u) = same-told WitnessTold tell-witness-once (check-once c w v p q) t u
 
 pub splicetuck-state-length-once : (c : Tables) → Once (λ a. LengthTold c a)
 splicetuck-state-length-once c x y p q = told-once (verdict c) _ x y p q

@@ -2,6 +2,7 @@
 use c_answers::CAnswer;
 use c_answers::CScan;
 use c_answers::CStep;
+use c_answers::CWitness;
 use c_answers::ControllerSizes;
 use meaning::Block;
 use meaning::Refusal;
@@ -10,6 +11,8 @@ use tables::Chart;
 ghost use Rattle.meaning.specs.Check.{verdict};
 ghost use Rattle.meaning.specs.declared.Ran.{Ran};
 ghost use Rattle.tables.specs.Given.{tablesOf};
+ghost use Rattle.check_witness.specs.Shown.{Witnessed};
+ghost use Rattle.check_witness.specs.declared.Witness.{Witness};
 ghost use Rattle.chart_calls.specs.Runs.{ChartRan};
 ghost use Rattle.chart_calls.specs.Steps.{ChartStepped};
 ghost use Rattle.chart_calls.specs.declared.Stepped.{Stepped};
@@ -26,7 +29,7 @@ ghost use Rattle.il_run.specs.declared.Scanned.{Scanned as ScanAnswer};
 ghost use Rattle.roundtrip_call.specs.WrittenRan.{WrittenRan};
 ghost use Rattle.roundtrip_call.specs.declared.WrittenRun.{WrittenRun};
 ghost use Rattle.c_answers.specs.Answers.{Told, RanTold, StepTold, WrittenTold, SizesTell, ReadTold, ScanTold};
-ghost use Rattle.c_answers.specs.Answers.{OutcomeTold};
+ghost use Rattle.c_answers.specs.Answers.{OutcomeTold, WitnessTold};
 ghost use Rattle.capi.specs.Lengths.{LengthTold};
 ghost use Rattle.capi.specs.Files.{KindRead};
 
@@ -52,6 +55,38 @@ pub extern "C" fn splicetuck_check(
         outputs: outputs,
     };
     c_answers::tell(check_tables::check(chart, states, moves, presets, timer_pairs, output_pairs))
+}
+
+// The same with a witness for an OVERLAP: the earlier move, and a state and a setting in which both moves are enabled.
+#[no_mangle]
+pub extern "C" fn splicetuck_check_witness(
+    step: u32,
+    inputs: u32,
+    outputs: u32,
+    states: &[u16],
+    moves: &[i16],
+    presets: &[u32],
+    timer_pairs: &[u16],
+    output_pairs: &[u16],
+) -> CWitness
+    ensures { λ a. ⌜ ((w : Witness) × Witnessed
+        (tablesOf (record { step = step; inputs = inputs; outputs = outputs }) (now (states .entry))
+        (now (moves .entry)) (now (presets .entry)) (now («timer_pairs» .entry)) (now («output_pairs» .entry))) w
+        × WitnessTold w a) ⌝ }
+{
+    let chart = Chart {
+        step: step,
+        inputs: inputs,
+        outputs: outputs,
+    };
+    c_answers::tell_witness(check_witness::check(
+        chart,
+        states,
+        moves,
+        presets,
+        timer_pairs,
+        output_pairs,
+    ))
 }
 
 // The run of a chart over lent state: refusals 1 to 11, STATE, SCANS.

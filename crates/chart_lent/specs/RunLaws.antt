@@ -17,15 +17,16 @@ use Rattle.meaning.specs.Calls.{stateCheck, scansCheck}
 use Rattle.meaning.specs.declared.Refusal.{Refusal}
 use Rattle.meaning.specs.declared.Refusal.the-variants as R
 use Rattle.meaning.specs.declared.Verdict.the-variants.{Accepted, Refused}
+use Rattle.check_needs.specs.Words.{needWords}
 use Rattle.chart_scan.specs.Held.{StateScanned}
 use Rattle.meaning.specs.declared.Ran.the-variants as A
 use Rattle.chart_lent.specs.Slice.{RunRoom, laterVerdict, answer, left, LentRun}
 
 -- slices of n places a state, all 0
-pub zero-room : (c : Tables) (n : ℕ) (asks : List ℕ) → stateCount c ≤ n → moveCount c ≤ length asks / 4 → RunRoom c (replicate n 0) (replicate n 0) (replicate n 0) (replicate n 0) asks
-zero-room c n asks h k = record {
+pub zero-room : (c : Tables) (n : ℕ) (needs : List ℕ) → stateCount c ≤ n → moveCount c ≤ length needs / needWords → RunRoom c (replicate n 0) (replicate n 0) (replicate n 0) (replicate n 0) needs
+zero-room c n needs h k = record {
   state = record { wantsRoom = room; memoryRoom = room; timersRoom = refl; runsRoom = room; noMemory = getD-equal 0 n; noRuns = getD-equal 0 n };
-  scans = record { showsRoom = room; asksRoom = k; noShows = getD-equal 0 n };
+  scans = record { showsRoom = room; needsRoom = k; noShows = getD-equal 0 n };
 }
   where
     room : stateCount c ≤ length (replicate {A = ℕ} n 0)

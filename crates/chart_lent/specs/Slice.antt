@@ -17,9 +17,9 @@ use Rattle.meaning.specs.declared.Ran.{Ran}
 use Rattle.meaning.specs.declared.Ran.the-variants as A
 
 -- room for a run, with nothing in it
-pub record RunRoom (c : Tables) (wants memory runs shows asks : List ℕ) : Type 0 where
+pub record RunRoom (c : Tables) (wants memory runs shows needs : List ℕ) : Type 0 where
   pub state : StateRoom c wants memory (replicate 32 0) runs
-  pub scans : Empty c shows asks
+  pub scans : Empty c shows needs
 
 -- "then 14, 15": the checks after those of the tables
 abbrev pub laterVerdict : Tables → List ℕ → List ℕ → List ℕ → List ℕ → Verdict

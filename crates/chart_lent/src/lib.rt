@@ -1,4 +1,5 @@
 // The run over a lent chart state. The tables have passed the check; on other tables it is harmless.
+use check_needs::Needs;
 use meaning::Ran;
 use meaning::Refusal;
 use tables::Chart;
@@ -24,7 +25,7 @@ fn run_in(
     memory: &mut [u16],
     runs: &mut [u64],
     shows: &mut [u64],
-    asks: &mut [u64],
+    needs: &mut [u64],
     state: &mut [u32],
     inputs: &[u64],
     leaves: &mut [u16],
@@ -33,7 +34,7 @@ fn run_in(
     ensures { λ r. ⌜ ((c : Tables) → TablesGiven c (chart .step) (chart .outputs) (now (states .entry))
         (now (moves .entry)) (now (presets .entry)) (now («timer_pairs» .entry)) (now («output_pairs» .entry))
         → Rules c → RunRoom c (now (wants .entry)) (now (memory .entry)) (now (runs .entry)) (now (shows .entry))
-        (now (asks .entry)) → LentRun c (now (inputs .entry)) (now (state .entry)) (now (leaves .entry))
+        (now (needs .entry)) → LentRun c (now (inputs .entry)) (now (state .entry)) (now (leaves .entry))
         (now (outputs .entry)) r (now (state .exit)) (now (leaves .exit)) (now (outputs .exit))) ⌝ }
 {
     let codes = layout::codes_of(states);
@@ -63,7 +64,7 @@ fn run_in(
         output_pairs,
         runs,
         shows,
-        asks,
+        needs,
         memory,
         &mut timers,
         inputs,
@@ -105,7 +106,7 @@ fn run_large(
     let mut memory = [0u16; 256];
     let mut runs = [0u64; 256];
     let mut shows = [0u64; 256];
-    let mut asks = [0u64; 2048];
+    let mut needs = [0u64; 512 * Needs::WORDS];
     run_in(
         chart,
         states,
@@ -117,7 +118,7 @@ fn run_large(
         &mut memory,
         &mut runs,
         &mut shows,
-        &mut asks,
+        &mut needs,
         state,
         inputs,
         leaves,
@@ -148,7 +149,7 @@ pub fn run_checked(
         let mut memory = [0u16; 32];
         let mut runs = [0u64; 32];
         let mut shows = [0u64; 32];
-        let mut asks = [0u64; 128];
+        let mut needs = [0u64; 32 * Needs::WORDS];
         return run_in(
             chart,
             states,
@@ -160,7 +161,7 @@ pub fn run_checked(
             &mut memory,
             &mut runs,
             &mut shows,
-            &mut asks,
+            &mut needs,
             state,
             inputs,
             leaves,

@@ -9,7 +9,8 @@ use Rattle.meaning.specs.Machine.{State, Seen, trace, stateAfterScans}
 use Rattle.meaning.specs.Laws.Machine.{SoundMemory}
 use Rattle.tables.specs.Given.{Lent}
 use Rattle.check_pairing.specs.Words.{PairedWords}
-use Rattle.chart_scan.specs.Choice.{LinkedTo, AskedTo}
+use Rattle.check_needs.specs.Words.{needWords}
+use Rattle.chart_scan.specs.Choice.{LinkedTo, HoldTo}
 use Rattle.chart_timers.specs.Times.{longest}
 
 -- the state that is held in an array of sub-states and an array of values
@@ -20,18 +21,18 @@ held c m ts = record { memory = take (stateCount c) m; timers = take (timerCount
 abbrev pub MemorySound : Tables → List ℕ → Type 0
 MemorySound c m = SoundMemory c m
 
--- what is made once for all scans: of each state the timers that run in it, the moves by their source, the literals as words, N scan steps of each timer
-pub record Made (c : Tables) (runs links asks most : List ℕ) : Type 0 where
+-- what is made once for all scans: of each state the timers that run in it, the moves by their source, what the moves need, N scan steps of each timer
+pub record Made (c : Tables) (runs links needs most : List ℕ) : Type 0 where
   pub running : PairedWords c (c .timerPairs) runs
   pub linked : LinkedTo c (moveCount c) links
-  pub asked : AskedTo c (moveCount c) asks
-  pub room : moveCount c ≤ length asks / 4
+  pub holds : HoldTo c (moveCount c) needs
+  pub room : moveCount c ≤ length needs / needWords
   pub longest : (i : ℕ) → i < timerCount c → getD most i 0 ≡ longest (c .scanStep) (getD (c .presets) i 0)
 
 -- room for what is made, with no outputs in it
-pub record Empty (c : Tables) (shows asks : List ℕ) : Type 0 where
+pub record Empty (c : Tables) (shows needs : List ℕ) : Type 0 where
   pub showsRoom : stateCount c ≤ length shows
-  pub asksRoom : moveCount c ≤ length asks / 4
+  pub needsRoom : moveCount c ≤ length needs / needWords
   pub noShows : (s : ℕ) → getD shows s 0 ≡ 0
 
 -- after scans on the words xs from s: the state, the leaves and the output words

@@ -1,5 +1,4 @@
 pub mod Choice
-pub mod HoldLaws
 pub mod LinkLaws
 pub mod Once
 pub mod WidestLaws

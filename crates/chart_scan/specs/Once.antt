@@ -3,7 +3,7 @@
 -- the chart are seen.
 use mathlib.Core.Path.{_≡_, sym, _∙_}
 use mathlib.Core.List.{List}
-use Prim.Native.Nat.{ℕ, _+_, _-_, _/_, _^_, _<_, _≤_}
+use Prim.Native.Nat.{ℕ, _+_, _-_, _/_, _<_, _≤_}
 use native.Mathlib.Omega.{arith}
 use native.Mathlib.Decide.{decLe}
 use lib.ListN.{length, getD}
@@ -12,15 +12,18 @@ use Rattle.meaning.specs.Once.{Once, OnceSeen}
 use Rattle.meaning.specs.Tables.{Tables, moveCount, stateCount}
 use Rattle.meaning.specs.Rules.{Rules}
 use Rattle.meaning.specs.Machine.{chosen, State, Valid}
-use Rattle.chart_scan.specs.Choice.{read, holdingAt, AskedTo, LinkedTo}
+use Rattle.chart_scan.specs.Choice.{read, HoldTo, LinkedTo}
+use Rattle.check_needs.specs.declared.ThingWords.{ThingWords}
+use Rattle.check_needs.specs.Words.{holdWords, needWords, needsAt}
+use Rattle.check_needs.specs.WordsLaws.{Small}
 use Rattle.meaning.specs.Laws.Once.{three}
 use Rattle.tables.specs.declared.Chart.{Chart}
 use Rattle.check_pairing.specs.Words.{PairedWords}
 use Rattle.chart_scan.specs.Held.{TablesGiven, Empty, StateScanned, held}
 
-pub make-asks-once : (c : Tables) (ms : List ℤ) (l : List ℕ) (i x y : ℕ) → c .moves ≡ ms → Rules c → moveCount c ≤ length l / 4 → i < moveCount c → x < 2 ^ 64 → y < 2 ^ 64
-    → OnceSeen (λ m. holdingAt x y m i) (λ m. (k : Tables) → k .moves ≡ ms → Rules k → moveCount k ≤ length l / 4 → AskedTo k (moveCount k) m)
-make-asks-once c ms l i x y e f g h a b m n p q = p c e f g i x y h a b ∙ sym (q c e f g i x y h a b)
+pub make-needs-once : (c : Tables) (ms : List ℤ) (l : List ℕ) (i : ℕ) (v : ThingWords) → c .moves ≡ ms → Rules c → moveCount c ≤ length l / needWords → i < moveCount c → Small v
+    → OnceSeen (λ m. holdWords (needsAt m i) v) (λ m. (k : Tables) → k .moves ≡ ms → Rules k → moveCount k ≤ length l / needWords → HoldTo k (moveCount k) m)
+make-needs-once c ms l i v e f g h a m n p q = p c e f g i v h a ∙ sym (q c e f g i v h a)
 
 -- links that are the same up to the last move's
 same-links : (c : Tables) (m n : List ℕ) (i : ℕ) → i < 256 + moveCount c → LinkedTo c (moveCount c) m → LinkedTo c (moveCount c) n → getD m i 0 ≡ getD n i 0
@@ -33,11 +36,11 @@ pub make-links-once : (c : Tables) (ms : List ℤ) (l : List ℕ) (i : ℕ) → 
     → OnceSeen (λ m. getD m i 0) (λ m. (k : Tables) → k .moves ≡ ms → Rules k → 768 ≤ length l → ((s : ℕ) → getD l s 0 ≡ 0) → LinkedTo k (moveCount k) m)
 make-links-once c ms l i e f g z h m n p q = same-links c m n i h (p c e f g z) (q c e f g z)
 
-pub chosen-once : (c : Tables) (ss : List ℕ) (ms : List ℤ) (links asks : List ℕ) (l x y : ℕ) → c .states ≡ ss → c .moves ≡ ms → Rules c
-    → LinkedTo c (moveCount c) links → AskedTo c (moveCount c) asks → moveCount c ≤ length asks / 4 → l < 256
-    → Once (λ r. (k : Tables) → k .states ≡ ss → k .moves ≡ ms → Rules k → LinkedTo k (moveCount k) links → AskedTo k (moveCount k) asks → moveCount k ≤ length asks / 4 → l < 256
-    → r ≡ chosen k (read x y) l)
-chosen-once c ss ms links asks l x y e f g h i j k r s p q = p c e f g h i j k ∙ sym (q c e f g h i j k)
+pub chosen-once : (c : Tables) (ss : List ℕ) (ms : List ℤ) (links ns : List ℕ) (l : ℕ) (on : ThingWords) → c .states ≡ ss → c .moves ≡ ms → Rules c
+    → LinkedTo c (moveCount c) links → HoldTo c (moveCount c) ns → moveCount c ≤ length ns / needWords → l < 256 → Small on
+    → Once (λ r. (k : Tables) → k .states ≡ ss → k .moves ≡ ms → Rules k → LinkedTo k (moveCount k) links → HoldTo k (moveCount k) ns → moveCount k ≤ length ns / needWords → l < 256 → Small on
+    → r ≡ chosen k (read on) l)
+chosen-once c ss ms links ns l on e f g h i j k m r s p q = p c e f g h i j k m ∙ sym (q c e f g h i j k m)
 
 pub run-once : (c : Tables) (h : Chart) (ss : List ℕ) (ms : List ℤ) (ps os rs ws qs m t xs leaves outputs : List ℕ)
     → TablesGiven c (h .step) (h .outputs) ss ms ps (c .timerPairs) os → Rules c → PairedWords c (c .timerPairs) rs → Empty c ws qs → stateCount c ≤ length m → length t ≡ 32

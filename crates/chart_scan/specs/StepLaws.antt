@@ -31,9 +31,9 @@ module _ (c : Tables) (R : Rules c) where
   -- the choice by words
   pub chosen-on : (x w y l : ℕ) (m ts : List ℕ) → l ≡ activeLeaf c (take (stateCount c) m) → ((n : ℕ) → n < 64 → inputOn w (suc n) ≡ paired c (c .timerPairs) (suc n) l)
       → ((i : ℕ) → i < timerCount c → inputOn y (suc i) ≡ expiredAt (c .presets) w ts i)
-      → chosen c (read x y) l ≡ chosen c (setting c x (held c m ts)) (activeLeaf c (take (stateCount c) m))
+      → chosen c (read (record { inputs = x; timers = y })) l ≡ chosen c (setting c x (held c m ts)) (activeLeaf c (take (stateCount c) m))
   unfolding setting
-  chosen-on x w y l m ts e q f = rw e (chosen-same c R (read x y) (setting c x (held c m ts)) (λ i a b. refl) same (activeLeaf c (take (stateCount c) m)))
+  chosen-on x w y l m ts e q f = rw e (chosen-same c R (read (record { inputs = x; timers = y })) (setting c x (held c m ts)) (λ i a b. refl) same (activeLeaf c (take (stateCount c) m)))
     where
       row : (i : ℕ) → i < timerCount c → inputOn y (suc i) ≡ timerExpired c (activeLeaf c (take (stateCount c) m)) (take (timerCount c) ts) (suc i)
       row i h = unfold timerExpired timerRuns preset timerValue in (

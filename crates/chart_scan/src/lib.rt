@@ -1,5 +1,6 @@
 // The scans of a chart, one or many, over tables that passed the check; on other tables they are harmless. First the
 // enabled move: the literals as words and the moves by their source, and which of them holds.
+use check_needs::ThingWords;
 use tables::Chart;
 ghost use mathlib.Core.Path.{_≡_};
 ghost use Prim.Native.Nat.{ℕ, suc, _<_, _≤_, _+_, _/_};
@@ -7,7 +8,9 @@ ghost use lib.ListN.{length, getD, set, take};
 ghost use Rattle.meaning.specs.Tables.{Tables, moveCount, source, stateCount};
 ghost use Rattle.meaning.specs.Rules.{Rules};
 ghost use Rattle.meaning.specs.Machine.{chosen, activeLeaf, memoryAfterMove, stateAfterStep, Valid};
-ghost use Rattle.chart_scan.specs.Choice.{read, holdingAt, AskedTo, lastHolding, LinkedTo};
+ghost use Rattle.chart_scan.specs.Choice.{read, HoldTo, lastHolding, LinkedTo};
+ghost use Rattle.check_needs.specs.Words.{needWords};
+ghost use Rattle.check_needs.specs.WordsLaws.{Small};
 ghost use mathlib.Core.Bool.{cond};
 ghost use lib.Dec.{ltb};
 ghost use Rattle.check_pairing.specs.Words.{PairedWords};
@@ -15,16 +18,12 @@ ghost use Rattle.chart_scan.specs.Held.{TablesGiven, Made, Empty, StateS
 
 // ---- once for all scans
 
-// Four words a move: the moves of an accepted chart pass too with as many inputs and timers as there may be.
-pub fn make_asks(moves: &[i16], asks: &mut [u64])
+// What the moves need: those of an accepted chart pass too with as many inputs and timers as there may be.
+pub fn make_needs(moves: &[i16], needs: &mut [u64])
     ensures { λ _. ⌜ ((c : Tables) → c .moves ≡ now (moves .entry) → Rules c
-        → moveCount c ≤ length (now (asks .entry)) / 4 → AskedTo c (moveCount c) (now (asks .exit))) ⌝ }
+        → moveCount c ≤ length (now (needs .entry)) / needWords → HoldTo c (moveCount c) (now (needs .exit))) ⌝ }
 {
-    let mut i = 0;
-    while i < moves.len() / Chart::MOVE_ROW {
-        check_needs::literal_passes(Chart::INPUTS, Chart::TIMERS, moves, i, asks);
-        i += 1;
-    }
+    check_literals::fill(Chart::INPUTS, Chart::TIMERS, moves, needs);
 }
 
 fn link(moves: &[i16], i: usize, links: &mut [u16])
@@ -62,35 +61,15 @@ pub fn make_links(moves: &[i16], links: &mut [u16])
 
 // ---- each scan
 
-// Whether the literals of move i hold, for the input word x and the word y of the expired timers.
-fn hold(asks: &[u64], i: usize, x: u64, y: u64) -> bool
-    ensures { λ r. ⌜ (i < length (now (asks .entry)) / 4 → r ≡ holdingAt x y (now (asks .entry)) i) ⌝ }
-{
-    if asks.len() / 4 <= i {
-        return false;
-    }
-    let at = 4 * i;
-    if (18446744073709551615 - x) & asks[at] != 0 {
-        return false;
-    }
-    if x & asks[at + 1] != 0 {
-        return false;
-    }
-    if (18446744073709551615 - y) & asks[at + 2] != 0 {
-        return false;
-    }
-    y & asks[at + 3] == 0
-}
-
 // The move from state s whose literals hold, counted from 1; 0 if there is none.
-fn chosen_from(links: &[u16], asks: &[u64], s: usize, x: u64, y: u64) -> usize
+fn chosen_from(links: &[u16], needs: &[u64], s: usize, on: ThingWords) -> usize
     ensures { λ r. ⌜ ((c : Tables) → Rules c → LinkedTo c (moveCount c) (now (links .entry))
-        → AskedTo c (moveCount c) (now (asks .entry)) → moveCount c ≤ length (now (asks .entry)) / 4 → s < 256
-        → r ≡ lastHolding c (read x y) s (moveCount c)) ⌝ }
+        → HoldTo c (moveCount c) (now (needs .entry)) → moveCount c ≤ length (now (needs .entry)) / needWords → s < 256
+        → Small on → r ≡ lastHolding c (read on) s (moveCount c)) ⌝ }
 {
     let mut j = slices::number(links, s) as usize;
     while 0 < j {
-        if hold(asks, j - 1, x, y) {
+        if check_needs::hold(check_needs::needs_at(needs, j - 1), on) {
             return j;
         }
         let next = slices::number(links, 255 + j) as usize;
@@ -108,19 +87,18 @@ pub fn chosen(
     states: &[u16],
     moves: &[i16],
     links: &[u16],
-    asks: &[u64],
+    needs: &[u64],
     l: usize,
-    x: u64,
-    y: u64,
+    on: ThingWords,
 ) -> usize
     ensures { λ r. ⌜ ((c : Tables) → c .states ≡ now (states .entry) → c .moves ≡ now (moves .entry) → Rules c
-        → LinkedTo c (moveCount c) (now (links .entry)) → AskedTo c (moveCount c) (now (asks .entry))
-        → moveCount c ≤ length (now (asks .entry)) / 4 → l < 256 → r ≡ chosen c (read x y) l) ⌝ }
+        → LinkedTo c (moveCount c) (now (links .entry)) → HoldTo c (moveCount c) (now (needs .entry))
+        → moveCount c ≤ length (now (needs .entry)) / needWords → l < 256 → Small on → r ≡ chosen c (read on) l) ⌝ }
 {
     let mut s = l;
     let mut k = 0;
     while k <= Chart::DEPTH {
-        let j = chosen_from(links, asks, s, x, y);
+        let j = chosen_from(links, needs, s, on);
         if 0 < j {
             return j - 1;
         }
@@ -159,7 +137,7 @@ fn scan(
     presets: &[u32],
     runs: &[u64],
     links: &[u16],
-    asks: &[u64],
+    needs: &[u64],
     most: &[u32],
     memory: &mut [u16],
     timers: &mut [u32],
@@ -168,7 +146,7 @@ fn scan(
 ) -> usize
     ensures { λ r. ⌜ ((c : Tables) → c .scanStep ≡ chart .step → c .states ≡ now (states .entry)
         → c .moves ≡ now (moves .entry) → c .presets ≡ now (presets .entry) → Rules c
-        → Made c (now (runs .entry)) (now (links .entry)) (now (asks .entry)) (now (most .entry))
+        → Made c (now (runs .entry)) (now (links .entry)) (now (needs .entry)) (now (most .entry))
         → stateCount c ≤ length (now (memory .entry)) → length (now (timers .entry)) ≡ 32
         → Valid c (held c (now (memory .entry)) (now (timers .entry)))
         → l ≡ activeLeaf c (take (stateCount c) (now (memory .entry)))
@@ -178,7 +156,11 @@ fn scan(
 {
     let ran = slices::word(runs, l);
     let y = chart_paths::expired_of(presets, ran, timers);
-    let i = chosen(states, moves, links, asks, l, x, y);
+    let on = ThingWords {
+        inputs: x,
+        timers: y,
+    };
+    let i = chosen(states, moves, links, needs, l, on);
     let next = leaf_after(states, moves, i, l, memory);
     chart_timers::time(
         chart.step,
@@ -199,7 +181,7 @@ fn run_made(
     runs: &[u64],
     shows: &[u64],
     links: &[u16],
-    asks: &[u64],
+    needs: &[u64],
     most: &[u32],
     memory: &mut [u16],
     timers: &mut [u32],
@@ -209,7 +191,7 @@ fn run_made(
 )
     ensures { λ _. ⌜ ((c : Tables) → c .scanStep ≡ chart .step → c .states ≡ now (states .entry)
         → c .moves ≡ now (moves .entry) → c .presets ≡ now (presets .entry) → Rules c
-        → Made c (now (runs .entry)) (now (links .entry)) (now (asks .entry)) (now (most .entry))
+        → Made c (now (runs .entry)) (now (links .entry)) (now (needs .entry)) (now (most .entry))
         → PairedWords c (c .outputPairs) (now (shows .entry)) → stateCount c ≤ length (now (memory .entry))
         → length (now (timers .entry)) ≡ 32 → Valid c (held c (now (memory .entry)) (now (timers .entry)))
         → length (now (leaves .entry)) ≡ length (now (inputs .entry))
@@ -227,7 +209,7 @@ fn run_made(
             presets,
             runs,
             links,
-            asks,
+            needs,
             most,
             memory,
             timers,
@@ -250,7 +232,7 @@ pub fn run(
     output_pairs: &[u16],
     runs: &[u64],
     shows: &mut [u64],
-    asks: &mut [u64],
+    needs: &mut [u64],
     memory: &mut [u16],
     timers: &mut [u32],
     inputs: &[u64],
@@ -259,7 +241,7 @@ pub fn run(
 )
     ensures { λ _. ⌜ ((c : Tables) → TablesGiven c (chart .step) (chart .outputs) (now (states .entry))
         (now (moves .entry)) (now (presets .entry)) (c .timerPairs) (now («output_pairs» .entry)) → Rules c
-        → PairedWords c (c .timerPairs) (now (runs .entry)) → Empty c (now (shows .entry)) (now (asks .entry))
+        → PairedWords c (c .timerPairs) (now (runs .entry)) → Empty c (now (shows .entry)) (now (needs .entry))
         → stateCount c ≤ length (now (memory .entry)) → length (now (timers .entry)) ≡ 32
         → Valid c (held c (now (memory .entry)) (now (timers .entry)))
         → length (now (leaves .entry)) ≡ length (now (inputs .entry))
@@ -268,7 +250,7 @@ pub fn run(
         (held c (now (memory .exit)) (now (timers .exit))) (now (leaves .exit)) (now (outputs .exit))) ⌝ }
 {
     check_pairing::paired_words(states, output_pairs, shows);
-    make_asks(moves, asks);
+    make_needs(moves, needs);
     let mut links = [0u16; 768];
     make_links(moves, &mut links);
     let most = chart_timers::longest_of(chart.step, presets);
@@ -280,7 +262,7 @@ pub fn run(
         runs,
         shows,
         &links,
-        asks,
+        needs,
         &most,
         memory,
         timers,

@@ -4,7 +4,7 @@ use mathlib.Core.Logic.{inl, inr}
 use Prim.Native.Nat.{ℕ, suc, _+_, _-_, _^_, _<_, _≤_}
 use native.Mathlib.Omega.{arith}
 use native.Mathlib.Decide.{ℕ-discrete, decLe}
-use mathlib.Core.Bool.{Bool, true, false, not, _&&_, _||_, or-false, false≢true}
+use mathlib.Core.Bool.{Bool, true, false, not, _&&_, _||_, or-false}
 use mathlib.Core.List.{List}
 use lib.ListN.{length, getD, set}
 use lib.Seq.{getD-set-same, getD-set-other}
@@ -19,15 +19,17 @@ use Rattle.meaning.specs.Tables.{Tables, mostDepth, mostMoves, literalPlaces, s
 use Rattle.meaning.specs.Hierarchy.{up, atOrAbove, isLeaf, timerRuns}
 use Rattle.meaning.specs.Laws.Hierarchy.{up-add}
 use Rattle.meaning.specs.Literals.{kindOf, wanted, inputOn}
-use Rattle.meaning.specs.Check.{withinCounts, initialPasses, literalPasses, runsBelow}
+use Rattle.meaning.specs.Needs.{neededBy}
+use Rattle.meaning.specs.Laws.Needs.{size-as, timer-named, names-timer, stands-by, stands-in}
+use Rattle.meaning.specs.Check.{initialPasses, runsBelow}
 use Rattle.meaning.specs.Rules.{MoveRule}
 use Rattle.meaning.specs.declared.Kind.{Kind}
 use Rattle.meaning.specs.declared.Kind.the-variants.{Unused, Input, Timer, Unknown}
 use Rattle.check_tree.specs.Falling.{Falling}
 use Rattle.check_pairing.specs.Words.{Tree, PairedWords}
 use Rattle.check_pairing.specs.WordsLaws.{root-stays}
-use Rattle.check_needs.specs.Words.{asksFor, isNeeded, NeedWords}
-use Rattle.check_needs.specs.WordsLaws.{size-as, literals-known, own-sign}
+use Rattle.check_needs.specs.declared.Needs.{Needs}
+use Rattle.check_needs.specs.Words.{NeedWords}
 
 -- what the later checks know from the earlier ones
 pub record EarlierPassed (c : Tables) : Type 0 where
@@ -78,65 +80,50 @@ every-more p n = same-test (every p 0 (suc n)) (every p 0 n && p n)
 
 -- ---- the test by words
 
--- all that is asked is run below: no literal asks for another timer
-module _ (c : Tables) (i x p q r s b : ℕ) (w : NeedWords c i literalPlaces p q r s) (l : literalPasses c i ≡ true) (below : (t : ℕ) → 1 ≤ t → t ≤ 64 → inputOn b t ≡ runsBelow c x (Timer t)) where
-  asked-by : (z : Bool) (t : ℕ) → 1 ≤ t → t ≤ 64 → isNeeded c i literalPlaces z (100 + t) ≡ true → inputOn (bitOr r s) t ≡ true
-  asked-by true t h k e = or-bit r s t ∙ or-l (inputOn r t) (inputOn s t) (w .expired t h k ∙ e)
-  asked-by false t h k e = or-bit r s t ∙ or-r (inputOn r t) (inputOn s t) (w .unexpired t h k ∙ e)
+-- all timers that are named are run below: no literal names another
+module _ (c : Tables) (i x : ℕ) (a : Needs) (b : ℕ) (w : NeedWords c i literalPlaces a) (below : (t : ℕ) → 1 ≤ t → t ≤ 64 → inputOn b t ≡ runsBelow c x (Timer t)) where
+  abbrev names : ℕ
+  names = bitOr (a .on .timers) (a .off .timers)
 
-  there : bitAnd (bitOr r s) b ≡ bitOr r s → (j : ℕ) → j < literalPlaces → runsBelow c x (kindOf (natAbs (literal c i j))) ≡ true
-  unfolding runsBelow
-  there e j h = go (kindOf n) refl
+  -- of either sign
+  named-by : (z : Bool) (t : ℕ) → 1 ≤ t → t ≤ 64 → neededBy c i literalPlaces z .timers t ≡ true → inputOn names t ≡ true
+  named-by true t h k e = or-bit (a .on .timers) (a .off .timers) t ∙ or-l _ (inputOn (a .off .timers) t) (w .on .timers t h k ∙ e)
+  named-by false t h k e = or-bit (a .on .timers) (a .off .timers) t ∙ or-r (inputOn (a .on .timers) t) _ (w .off .timers t h k ∙ e)
+
+  there : bitAnd names b ≡ names → (j : ℕ) → j < literalPlaces → runsBelow c x (kindOf (natAbs (literal c i j))) ≡ true
+  unfolding runsBelow neededBy
+  there e j h = go (kindOf (natAbs (literal c i j))) refl
     where
-      n : ℕ
-      n = natAbs (literal c i j)
+      go : (K : Kind) → kindOf (natAbs (literal c i j)) ≡ K → runsBelow c x K ≡ true
+      go Unused f = refl
+      go (Input m) f = refl
+      go (Timer t) f =
+          let g = size-as (natAbs (literal c i j)) (Timer t) f in
+          let k : t ≤ 64 = omega (arith, g .2) in
+          let z = wanted (literal c i j) in
+          let d = named-by z t (g .1) k (stands-in c i literalPlaces z (λ s. s .timers t) j h refl (names-timer (natAbs (literal c i j)) t f)) in
+          sym (below t (g .1) k) ∙ and-r (inputOn names t) (inputOn b t) (sym (and-bit names b t) ∙ ap (λ y. inputOn y t) e ∙ d)
+      go Unknown f = refl
 
-      z : Bool
-      z = wanted (literal c i j)
-
-      timer : (t : ℕ) → n ≡ 100 + t → 1 ≤ t → t ≤ 64 → runsBelow c x (Timer t) ≡ true
-      timer t f p q =
-          let d = asked-by z t p q (some-intro (λ k. asksFor z (100 + t) (literal c i k)) 0 literalPlaces j (omega arith) (omega arith) (and-both _ _ (eq-eqb n (100 + t) f) (own-sign z))) in
-          sym (below t p q) ∙ and-r (inputOn (bitOr r s) t) (inputOn b t) (sym (and-bit (bitOr r s) b t) ∙ ap (λ y. inputOn y t) e ∙ d)
-
-      go : (K : Kind) → kindOf n ≡ K → runsBelow c x (kindOf n) ≡ true
-      go Unused f = rw f
-      go (Input m) f = rw f
-      go (Timer t) f = let g = size-as n (Timer t) f in rw f (timer t (g .0) (g .1) (g .2))
-      go Unknown f = rw f
-
-  back : ((j : ℕ) → j < literalPlaces → runsBelow c x (kindOf (natAbs (literal c i j))) ≡ true) → (t : ℕ) → 1 ≤ t → t ≤ 64 → inputOn (bitOr r s) t ≡ true → inputOn b t ≡ true
-  unfolding withinCounts
-  back f t h k e = elim (or-cases (inputOn r t) (inputOn s t) (sym (or-bit r s t) ∙ e)) [
-    | inl d ↦ of true (sym (w .expired t h k) ∙ d)
-    | inr d ↦ of false (sym (w .unexpired t h k) ∙ d)
+  back : ((j : ℕ) → j < literalPlaces → runsBelow c x (kindOf (natAbs (literal c i j))) ≡ true) → (t : ℕ) → 1 ≤ t → t ≤ 64 → inputOn names t ≡ true → inputOn b t ≡ true
+  unfolding neededBy
+  back f t h k e = elim (or-cases (inputOn (a .on .timers) t) (inputOn (a .off .timers) t) (sym (or-bit (a .on .timers) (a .off .timers) t) ∙ e)) [
+    | inl d ↦ of true (sym (w .on .timers t h k) ∙ d)
+    | inr d ↦ of false (sym (w .off .timers t h k) ∙ d)
   ]
     where
-      of : (z : Bool) → isNeeded c i literalPlaces z (100 + t) ≡ true → inputOn b t ≡ true
-      of z d = go (kindOf n) refl
-        where
-          y : (k : ℕ) × (0 ≤ k) × (k < 0 + literalPlaces) × (asksFor z (100 + t) (literal c i k) ≡ true)
-          y = some-yes (λ k. asksFor z (100 + t) (literal c i k)) 0 literalPlaces d
+      of : (z : Bool) → neededBy c i literalPlaces z .timers t ≡ true → inputOn b t ≡ true
+      of z d =
+          let y = stands-by c i literalPlaces z (λ s. s .timers t) d in
+          below t h k ∙ sym (ap (runsBelow c x) (timer-named (natAbs (literal c i (y .0))) t (y .3))) ∙ f (y .0) (y .1)
 
-          n : ℕ
-          n = natAbs (literal c i (y .0))
-
-          size : n ≡ 100 + t
-          size = eqb-true n (100 + t) (and-l _ _ (y .3))
-
-          go : (K : Kind) → kindOf n ≡ K → inputOn b t ≡ true
-          go Unused g = absurd (omega (arith, size, size-as n Unused g))
-          go (Input m) g = let v = size-as n (Input m) g in absurd (omega (arith, size, v .0, v .2))
-          go (Timer u) g = let v = size-as n (Timer u) g in let o : u ≡ t = omega (arith, size, v .0) in below t h k ∙ sym (ap (λ m. runsBelow c x (Timer m)) o) ∙ ap (runsBelow c x) (sym g) ∙ f (y .0) (omega (arith, y .2))
-          go Unknown g = absurd (false≢true (rw g at (literals-known c i l (y .0) (omega (arith, y .2)))))
-
-  pub idle-words : r < 2 ^ 64 → s < 2 ^ 64 → eqb (bitAnd (bitOr r s) b) (bitOr r s) ≡ every (λ j. runsBelow c x (kindOf (natAbs (literal c i j)))) 0 literalPlaces
-  idle-words hr hs = same-test (eqb (bitAnd (bitOr r s) b) (bitOr r s)) (every (λ j. runsBelow c x (kindOf (natAbs (literal c i j)))) 0 literalPlaces)
-      (λ e. every-intro (λ j. runsBelow c x (kindOf (natAbs (literal c i j)))) literalPlaces (there (eqb-true (bitAnd (bitOr r s) b) (bitOr r s) e)))
+  pub idle-words : a .on .timers < 2 ^ 64 → a .off .timers < 2 ^ 64 → eqb (bitAnd names b) names ≡ every (λ j. runsBelow c x (kindOf (natAbs (literal c i j)))) 0 literalPlaces
+  idle-words hr hs = same-test (eqb (bitAnd names b) names) (every (λ j. runsBelow c x (kindOf (natAbs (literal c i j)))) 0 literalPlaces)
+      (λ e. every-intro (λ j. runsBelow c x (kindOf (natAbs (literal c i j)))) literalPlaces (there (eqb-true (bitAnd names b) names e)))
       (λ e. let f = back (every-yes (λ j. runsBelow c x (kindOf (natAbs (literal c i j)))) literalPlaces e) in
-      let small = or-lt 64 r s hr hs in
-      eq-eqb (bitAnd (bitOr r s) b) (bitOr r s) (same-bits 64 (bitAnd (bitOr r s) b) (bitOr r s) (omega (arith, and-le-l (bitOr r s) b)) small
-      (λ n h. and-bit (bitOr r s) b (suc n) ∙ same-test (inputOn (bitOr r s) (suc n) && inputOn b (suc n)) (inputOn (bitOr r s) (suc n)) (and-l _ _) (λ d. and-both _ _ d (f (suc n) (omega arith) (omega arith) d)))))
+      let small = or-lt 64 (a .on .timers) (a .off .timers) hr hs in
+      eq-eqb (bitAnd names b) names (same-bits 64 (bitAnd names b) names (omega (arith, and-le-l names b)) small
+      (λ n h. and-bit names b (suc n) ∙ same-test (inputOn names (suc n) && inputOn b (suc n)) (inputOn names (suc n)) (and-l _ _) (λ d. and-both _ _ d (f (suc n) (omega arith) (omega arith) d)))))
 
 -- ---- a leaf narrows the words of the states above it
 

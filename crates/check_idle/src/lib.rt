@@ -1,15 +1,15 @@
-// Refusal 9, IDLE TIMER: which timers all leaves at or below a state run, and whether a move asks for another.
+// Refusal 9, IDLE TIMER: which timers all leaves at or below a state run, and whether a move names another.
 use tables::Chart;
 ghost use mathlib.Core.Path.{_≡_};
-ghost use mathlib.Core.Bool.{true, not, _&&_, _||_};
+ghost use mathlib.Core.Bool.{not, _&&_, _||_};
 ghost use Prim.Native.Nat.{ℕ, _<_, _≤_, _/_};
 ghost use lib.ListN.{length, getD, set};
 ghost use lib.Bits.{bitAnd};
 ghost use Rattle.meaning.specs.Tables.{Tables, stateCount, superState, source};
 ghost use Rattle.meaning.specs.Hierarchy.{atOrAbove};
 ghost use Rattle.meaning.specs.Literals.{inputOn};
-ghost use Rattle.meaning.specs.Check.{literalPasses, idlePasses};
-ghost use Rattle.check_needs.specs.Words.{WordsAt};
+ghost use Rattle.meaning.specs.Check.{idlePasses};
+ghost use Rattle.check_needs.specs.Words.{needWords, WordsAt};
 ghost use Rattle.check_idle.specs.Leaves.{TimersKnown, leafRuns, Full, Below};
 
 // Of what all leaves below x run so far, what this one runs too.
@@ -68,17 +68,13 @@ pub fn run_below(states: &[u16], running: &[u64], words: &mut [u64])
     }
 }
 
-// "timer literal, but some leaf at or below the source doesn't run it": of the words for what the moves ask, and of
+// "timer literal, but some leaf at or below the source doesn't run it": of the words for what the moves need, and of
 // those for what is run below each state.
-pub fn idle_passes(moves: &[i16], asks: &[u64], below: &[u64], i: usize) -> bool
+pub fn idle_passes(moves: &[i16], words: &[u64], below: &[u64], i: usize) -> bool
     ensures { λ r. ⌜ ((c : Tables) → c .moves ≡ now (moves .entry) → Below c (now (below .entry))
-        → source c i < stateCount c → literalPasses c i ≡ true → i < length (now (asks .entry)) / 4
-        → WordsAt c i (now (asks .entry)) → r ≡ idlePasses c i) ⌝ }
+        → source c i < stateCount c → i < length (now (words .entry)) / needWords
+        → WordsAt c i (now (words .entry)) → r ≡ idlePasses c i) ⌝ }
 {
-    if asks.len() / 4 <= i {
-        return false;
-    }
-    let at = 4 * i;
-    let asked = asks[at + 2] | asks[at + 3];
-    asked & slices::word(below, tables::source(moves, i)) == asked
+    let named = check_needs::timers_named(check_needs::needs_at(words, i));
+    named & slices::word(below, tables::source(moves, i)) == named
 }

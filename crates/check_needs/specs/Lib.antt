@@ -1,4 +1,3 @@
 pub mod Words
 pub mod WordsLaws
 pub mod Once
-pub mod PlaceLaws

@@ -1,61 +1,107 @@
--- What the literals of a move ask for, as words: number n is the bit of weight 2^(n-1).
+-- Sets of things as words, a word for each class: number n is the bit of weight 2^(n-1). What a move needs, as two sets
+-- in words, and as a move's words of a slice.
 use mathlib.Core.Path.{_≡_}
-use Prim.Native.Nat.{ℕ, _+_, _*_, _<_, _≤_}
-use mathlib.Core.Bool.{Bool, true, false, _&&_, _||_, Bool·beq}
+use Prim.Native.Nat.{ℕ, _+_, _*_, _-_, _/_, _<_, _≤_}
+use mathlib.Core.Bool.{Bool, true, false, not, cond, _&&_, _||_}
 use mathlib.Core.List.{List}
-use lib.ListN.{getD, set}
-use lib.Dec.{eqb}
-use lib.IntN.{ℤ, natAbs}
-use Rattle.meaning.specs.Rows.{some}
-use Rattle.meaning.specs.Tables.{Tables, literalPlaces, literal}
-use Rattle.meaning.specs.Literals.{wanted, inputOn}
-use Rattle.check_needs.specs.declared.MoveNeeds.{MoveNeeds}
+use lib.ListN.{length, getD, set}
+use lib.Dec.{eqb, ltb}
+use lib.Bits.{bitAnd, bitOr}
+use Rattle.meaning.specs.Rows.{least, most64}
+use Rattle.meaning.specs.Tables.{Tables, literalPlaces}
+use Rattle.meaning.specs.Literals.{inputOn}
+use Rattle.meaning.specs.Needs as N
+use Rattle.meaning.specs.declared.Kind.{Kind}
+use Rattle.meaning.specs.declared.Kind.the-variants.{Unused, Input, Timer, Unknown}
+use Rattle.slices.specs.Numbers.{withNumber}
+use Rattle.check_needs.specs.declared.ThingWords.{ThingWords}
+use Rattle.check_needs.specs.declared.Needs.{Needs}
 
--- the literal z asks for what has the size n, and wants it on or off
-abbrev pub asksFor : Bool → ℕ → ℤ → Bool
-asksFor b n z = eqb (natAbs z) n && Bool·beq (wanted z) b
+-- ---- sets
 
--- one of the first k places of move i does
-abbrev pub isNeeded : Tables → ℕ → ℕ → Bool → ℕ → Bool
-isNeeded c i k b n = some (λ j. asksFor b n (literal c i j)) 0 k
-
--- one of the first k places of move i is unused
-abbrev pub someUnused : Tables → ℕ → ℕ → Bool
-someUnused c i k = some (λ j. eqb (natAbs (literal c i j)) 0) 0 k
-
--- the bits of a word
+-- the numbers of a word
 abbrev pub WordBits : ℕ → (ℕ → Bool) → Type 0
 WordBits w f = (n : ℕ) → 1 ≤ n → n ≤ 64 → inputOn w n ≡ f n
 
--- what the first k places of move i ask: inputs to be on and to be off, timers to be expired and not to be
-pub record NeedWords (c : Tables) (i k p q r s : ℕ) : Type 0 where
-  pub on : WordBits p (isNeeded c i k true)
-  pub off : WordBits q (isNeeded c i k false)
-  pub expired : WordBits r (λ n. isNeeded c i k true (100 + n))
-  pub unexpired : WordBits s (λ n. isNeeded c i k false (100 + n))
+-- the words of a set
+pub record InWords (w : ThingWords) (s : N.Things) : Type 0 where
+  pub inputs : WordBits (w .inputs) (s .inputs)
+  pub timers : WordBits (w .timers) (s .timers)
 
--- a has what the first k places of move i ask
-pub record Asked (c : Tables) (i k : ℕ) (a : MoveNeeds) : Type 0 where
-  pub words : NeedWords c i k (a .on) (a .off) (a .expired) (a .unexpired)
-  pub end : a .ended ≡ someUnused c i k
+-- the set of words
+abbrev pub setOf : ThingWords → N.Things
+setOf w = record { inputs = inputOn (w .inputs); timers = inputOn (w .timers) }
 
--- r is a with what the literal z asks
-pub record Adds (a : MoveNeeds) (z : ℤ) (r : MoveNeeds) : Type 0 where
-  pub on : WordBits (r .on) (λ n. inputOn (a .on) n || asksFor true n z)
-  pub off : WordBits (r .off) (λ n. inputOn (a .off) n || asksFor false n z)
-  pub expired : WordBits (r .expired) (λ n. inputOn (a .expired) n || asksFor true (100 + n) z)
-  pub unexpired : WordBits (r .unexpired) (λ n. inputOn (a .unexpired) n || asksFor false (100 + n) z)
-  pub end : r .ended ≡ (a .ended || eqb (natAbs z) 0)
-  pub passes : r .passes ≡ a .passes
+-- with what a literal of this kind names
+abbrev pub withNamed : ThingWords → Kind → ThingWords
+withNamed a Unused = a
+withNamed a (Input n) = record { inputs = withNumber (a .inputs) n; timers = a .timers }
+withNamed a (Timer n) = record { inputs = a .inputs; timers = withNumber (a .timers) n }
+withNamed a Unknown = a
 
--- four words a move: those of move i are in l
+abbrev pub unionWords : ThingWords → ThingWords → ThingWords
+unionWords a b = record { inputs = bitOr (a .inputs) (b .inputs); timers = bitOr (a .timers) (b .timers) }
+
+-- what is not in a set
+abbrev pub others : ThingWords → ThingWords
+others a = record { inputs = most64 - a .inputs; timers = most64 - a .timers }
+
+-- two words have a number in common
+abbrev pub meets : ℕ → ℕ → Bool
+meets x y = not (eqb (bitAnd x y) 0)
+
+abbrev pub meetWords : ThingWords → ThingWords → Bool
+meetWords a b = meets (a .inputs) (b .inputs) || meets (a .timers) (b .timers)
+
+-- ---- what moves need
+
+-- one's on meets the other's off, class by class
+abbrev pub clashWords : Needs → Needs → Bool
+clashWords a b = (meets (a .on .inputs) (b .off .inputs) || meets (b .on .inputs) (a .off .inputs))
+    || (meets (a .on .timers) (b .off .timers) || meets (b .on .timers) (a .off .timers))
+
+-- nothing that is needed off is on, nothing that is needed on is off
+abbrev pub holdWords : Needs → ThingWords → Bool
+holdWords a v = not (meetWords (a .off) v) && not (meetWords (a .on) (others v))
+
+-- what the first k literals of move i need
+pub record NeedWords (c : Tables) (i k : ℕ) (w : Needs) : Type 0 where
+  pub on : InWords (w .on) (N.neededBy c i k true)
+  pub off : InWords (w .off) (N.neededBy c i k false)
+
+-- ---- in a slice
+
+-- so many words are a move's: one for each sign and class
+abbrev pub needWords : ℕ
+needWords = 4
+
+abbrev pub noNeeds : Needs
+noNeeds = record { on = record { inputs = 0; timers = 0 }; off = record { inputs = 0; timers = 0 } }
+
+-- the words of move i
+abbrev pub needsAt : List ℕ → ℕ → Needs
+needsAt l i = record {
+  on = record { inputs = getD l (needWords * i) 0; timers = getD l (needWords * i + 1) 0 };
+  off = record { inputs = getD l (needWords * i + 2) 0; timers = getD l (needWords * i + 3) 0 };
+}
+
+-- l with the words of move i
+abbrev pub needsPut : List ℕ → ℕ → Needs → List ℕ
+needsPut l i w = set (set (set (set l (needWords * i) (w .on .inputs)) (needWords * i + 1) (w .on .timers))
+    (needWords * i + 2) (w .off .inputs)) (needWords * i + 3) (w .off .timers)
+
+-- a move that needs a clashes with move j; a slice that is too short for move j has nothing to clash with
+abbrev pub clashAt : List ℕ → Needs → ℕ → Bool
+clashAt l a j = cond (ltb j (length l / needWords)) (clashWords a (needsAt l j)) false
+
+-- the first of the moves from i to below n with which it does not clash; with none, n, or i if that is more
+abbrev pub firstApart : List ℕ → Needs → ℕ → ℕ → ℕ
+firstApart l a i n = least (λ j. not (clashAt l a j)) i (n - i)
+
+-- move i needs what its words say
 abbrev pub WordsAt : Tables → ℕ → List ℕ → Type 0
-WordsAt c i l = NeedWords c i literalPlaces (getD l (4 * i) 0) (getD l (4 * i + 1) 0) (getD l (4 * i + 2) 0) (getD l (4 * i + 3) 0)
+WordsAt c i l = NeedWords c i literalPlaces (needsAt l i)
 
--- those of the moves below n are
+-- so do the moves below n
 abbrev pub WordsTo : Tables → ℕ → List ℕ → Type 0
 WordsTo c n l = (i : ℕ) → i < n → WordsAt c i l
-
--- l with the four words of move i
-abbrev pub four : List ℕ → ℕ → ℕ → ℕ → ℕ → ℕ → List ℕ
-four l i p q r s = set (set (set (set l (4 * i) p) (4 * i + 1) q) (4 * i + 2) r) (4 * i + 3) s

@@ -1,166 +1,193 @@
-// What the literals of a move need on and off, as words, and the rules that they are held to: document 01's refusal 8,
-// LITERAL.
+// What a move needs on and what it needs off, as words: document 02, Ask 2. Whoever asks for it goes through here: a
+// class of things more is a field of `ThingWords` and two words more of a move.
 use meaning::Kind;
 ghost use mathlib.Core.Path.{_≡_};
-ghost use mathlib.Core.Bool.{true, not, _&&_, _||_};
-ghost use Prim.Native.Nat.{_+_, _<_, _≤_, _/_, ℕ, suc};
+ghost use Prim.Native.Nat.{_<_, _≤_, _/_};
 ghost use lib.ListN.{length};
-ghost use lib.IntN.{ℤ, natAbs};
-ghost use Rattle.meaning.specs.Tables.{Tables, timerCount, literal};
-ghost use Rattle.meaning.specs.Literals.{kindOf, wanted, inputOn};
-ghost use Rattle.meaning.specs.Check.{withinCounts, placePasses, literalPasses};
-ghost use Rattle.check_needs.specs.Words.{four, Adds, Asked, WordsTo};
+ghost use lib.Bits.{bitOr};
+ghost use Rattle.meaning.specs.declared.Kind.the-variants.{Input, Timer};
+ghost use Rattle.check_needs.specs.Words.{needWords, needsAt, needsPut, noNeeds, meetWords, clashAt, firstApart};
+ghost use Rattle.check_needs.specs.Words.{others, holdWords, unionWords, withNamed};
 
-// The inputs that the places of a move so far ask to be on and to be off, and the timers to be expired and not to be:
-// number n is the bit of weight 2^(n-1). Whether one of the places is unused, and whether all pass.
-pub struct MoveNeeds {
-    pub on: u64,
-    pub off: u64,
-    pub expired: u64,
-    pub unexpired: u64,
-    pub ended: bool,
-    pub passes: bool,
+// A set of things, a word for each class: number n is the bit of weight 2^(n-1).
+pub struct ThingWords {
+    pub inputs: u64,
+    pub timers: u64,
 }
 
-fn end(a: MoveNeeds) -> MoveNeeds
-    ensures { λ r. ⌜ ((z : ℤ) → natAbs z ≡ 0 → Adds a z r) ⌝ }
+// What the literals of a move need on, and what they need off.
+pub struct Needs {
+    pub on: ThingWords,
+    pub off: ThingWords,
+}
+
+impl Needs {
+    // So many words of a slice are a move's: one for each sign and class.
+    pub const WORDS: usize = 4;
+}
+
+const MOST: u64 = 18446744073709551615;
+
+// ---- sets
+
+fn with_input(s: ThingWords, n: u16) -> ThingWords
+    ensures { λ r. ⌜ r ≡ withNamed s (Input n) ⌝ }
 {
-    let mut r = a;
-    r.ended = true;
+    let mut r = s;
+    r.inputs = slices::with_number(s.inputs, n as usize);
     r
 }
 
-fn ask_input(a: MoveNeeds, want: bool, n: u16) -> MoveNeeds
-    ensures { λ r. ⌜ ((z : ℤ) → want ≡ wanted z → natAbs z ≡ n → 1 ≤ n → n ≤ 64 → Adds a z r) ⌝ }
+fn with_timer(s: ThingWords, n: u16) -> ThingWords
+    ensures { λ r. ⌜ r ≡ withNamed s (Timer n) ⌝ }
 {
-    let mut r = a;
-    if want {
-        r.on = slices::with_number(a.on, n as usize);
-        return r;
-    }
-    r.off = slices::with_number(a.off, n as usize);
+    let mut r = s;
+    r.timers = slices::with_number(s.timers, n as usize);
     r
 }
 
-fn ask_timer(a: MoveNeeds, want: bool, n: u16) -> MoveNeeds
-    ensures { λ r. ⌜ ((z : ℤ) → want ≡ wanted z → natAbs z ≡ 100 + n → 1 ≤ n → n ≤ 64 → Adds a z r) ⌝ }
-{
-    let mut r = a;
-    if want {
-        r.expired = slices::with_number(a.expired, n as usize);
-        return r;
-    }
-    r.unexpired = slices::with_number(a.unexpired, n as usize);
-    r
-}
-
-// What a literal asks for, beside what those before it do: "a negative number asks for the same thing to be off".
-pub fn ask(a: MoveNeeds, want: bool, kind: Kind) -> MoveNeeds
-    ensures { λ r. ⌜ ((c : Tables) (z : ℤ) → want ≡ wanted z → kind ≡ kindOf (natAbs z) → withinCounts c kind ≡ true
-        → Adds a z r) ⌝ }
+// The set with what a literal of this kind names.
+pub fn with_named(s: ThingWords, kind: Kind) -> ThingWords
+    ensures { λ r. ⌜ r ≡ withNamed s kind ⌝ }
 {
     match kind {
-        Kind::Unused => end(a),
-        Kind::Input(n) => ask_input(a, want, n),
-        Kind::Timer(n) => ask_timer(a, want, n),
-        Kind::Unknown => a,
+        Kind::Unused => s,
+        Kind::Input(n) => with_input(s, n),
+        Kind::Timer(n) => with_timer(s, n),
+        Kind::Unknown => s,
     }
 }
 
-// What a move asks for, as its four words in the slice.
-pub fn put_words(words: &mut [u64], i: usize, a: MoveNeeds)
-    ensures { λ _. ⌜ (i < length (now (words .entry)) / 4
-        → now (words .exit) ≡ four (now (words .entry)) i (a .on) (a .off) (a .expired) (a .unexpired)) ⌝ }
+// What is in one of two sets.
+pub fn union(a: ThingWords, b: ThingWords) -> ThingWords
+    ensures { λ r. ⌜ r ≡ unionWords a b ⌝ }
 {
-    if words.len() / 4 <= i {
+    ThingWords {
+        inputs: a.inputs | b.inputs,
+        timers: a.timers | b.timers,
+    }
+}
+
+// Some thing is in both sets.
+fn meet(a: ThingWords, b: ThingWords) -> bool
+    ensures { λ r. ⌜ r ≡ meetWords a b ⌝ }
+{
+    if a.inputs & b.inputs != 0 {
+        return true;
+    }
+    a.timers & b.timers != 0
+}
+
+// What is not in the set.
+fn others(s: ThingWords) -> ThingWords
+    ensures { λ r. ⌜ r ≡ others s ⌝ }
+{
+    ThingWords {
+        inputs: MOST - s.inputs,
+        timers: MOST - s.timers,
+    }
+}
+
+// ---- what moves need
+
+// Whether the literals hold where these things are on and no others.
+pub fn hold(a: Needs, on: ThingWords) -> bool
+    ensures { λ r. ⌜ r ≡ holdWords a on ⌝ }
+{
+    if meet(a.off, on) {
+        return false;
+    }
+    !meet(a.on, others(on))
+}
+
+// The timers that the literals name, of either sign.
+pub fn timers_named(a: Needs) -> u64
+    ensures { λ r. ⌜ r ≡ bitOr (a .on .timers) (a .off .timers) ⌝ }
+{
+    a.on.timers | a.off.timers
+}
+
+// ---- in a slice
+
+// What move i needs; nothing, if the slice is too short for it.
+pub fn needs_at(words: &[u64], i: usize) -> Needs
+    ensures { λ r. ⌜ (i < length (now (words .entry)) / needWords → r ≡ needsAt (now (words .entry)) i)
+        × (length (now (words .entry)) / needWords ≤ i → r ≡ noNeeds) ⌝ }
+{
+    if words.len() / Needs::WORDS <= i {
+        return Needs {
+            on: ThingWords {
+                inputs: 0,
+                timers: 0,
+            },
+            off: ThingWords {
+                inputs: 0,
+                timers: 0,
+            },
+        };
+    }
+    let at = Needs::WORDS * i;
+    Needs {
+        on: ThingWords {
+            inputs: words[at],
+            timers: words[at + 1],
+        },
+        off: ThingWords {
+            inputs: words[at + 2],
+            timers: words[at + 3],
+        },
+    }
+}
+
+// What move i needs, stored where `needs_at` finds it, if there is room.
+pub fn put_needs(words: &mut [u64], i: usize, a: Needs)
+    ensures { λ _. ⌜ (i < length (now (words .entry)) / needWords
+        → now (words .exit) ≡ needsPut (now (words .entry)) i a)
+        × (length (now (words .entry)) / needWords ≤ i → now (words .exit) ≡ now (words .entry)) ⌝ }
+{
+    if words.len() / Needs::WORDS <= i {
         return;
     }
-    words[4 * i] = a.on;
-    words[4 * i + 1] = a.off;
-    words[4 * i + 2] = a.expired;
-    words[4 * i + 3] = a.unexpired;
+    let at = Needs::WORDS * i;
+    words[at] = a.on.inputs;
+    words[at + 1] = a.on.timers;
+    words[at + 2] = a.off.inputs;
+    words[at + 3] = a.off.timers;
 }
 
-// Whether number n may follow: no unused place before it, and not one thing twice.
-fn free(ended: bool, p: u64, q: u64, n: u16) -> bool
-    ensures { λ r. ⌜ (1 ≤ n → n ≤ 64 → r ≡ (not ended && not (inputOn p n || inputOn q n))) ⌝ }
+// "a clash where one's on meets the other's off": of a move that needs a, with move j. Class by class, and a word is
+// read only where those before it left it open: most pairs of moves clash at one of the first two.
+fn clash_at(words: &[u64], j: usize, a: Needs) -> bool
+    ensures { λ r. ⌜ r ≡ clashAt (now (words .entry)) a j ⌝ }
 {
-    if ended {
+    if words.len() / Needs::WORDS <= j {
         return false;
     }
-    if n < 1 {
-        return false;
+    let at = Needs::WORDS * j;
+    if a.on.inputs & words[at + 2] != 0 {
+        return true;
     }
-    if 64 < n {
-        return false;
+    if words[at] & a.off.inputs != 0 {
+        return true;
     }
-    ((p | q) >> (n - 1)) % 2 != 1
+    if a.on.timers & words[at + 3] != 0 {
+        return true;
+    }
+    words[at + 1] & a.off.timers != 0
 }
 
-// "a literal rule broken, or beyond the counts": whether a literal of this kind may stand next.
-fn kind_passes(a: MoveNeeds, inputs: u32, timers: usize, kind: Kind) -> bool
-    ensures { λ r. ⌜ ((c : Tables) (i k : ℕ) → c .inputs ≡ inputs → timerCount c ≡ timers → Asked c i k a
-        → kind ≡ kindOf (natAbs (literal c i k)) → r ≡ placePasses c i k) ⌝ }
+// The first of the moves from `from` to below `to` that does not clash with a move that needs a; with none, where it
+// ends. It is a loop of its own because most of the check's time goes here: in a longer one the compiler keeps the
+// words in memory.
+pub fn first_apart(words: &[u64], a: Needs, from: usize, to: usize) -> usize
+    ensures { λ r. ⌜ r ≡ firstApart (now (words .entry)) a from to ⌝ }
 {
-    match kind {
-        Kind::Unused => true,
-        Kind::Input(n) => {
-            if (n as u32) <= inputs {
-                return free(a.ended, a.on, a.off, n);
-            }
-            false
+    let mut j = from;
+    while j < to {
+        if !clash_at(words, j, a) {
+            return j;
         }
-        Kind::Timer(n) => {
-            if (n as usize) <= timers {
-                return free(a.ended, a.expired, a.unexpired, n);
-            }
-            false
-        }
-        Kind::Unknown => false,
+        j += 1;
     }
-}
-
-// What move i asks for, and whether it passes; where it does not, the words are those of the places before.
-fn asks_of(inputs: u32, timers: usize, moves: &[i16], i: usize) -> MoveNeeds
-    ensures { λ r. ⌜ ((c : Tables) → c .inputs ≡ inputs → timerCount c ≡ timers → c .moves ≡ now (moves .entry)
-        → (r .passes ≡ literalPasses c i) × (r .passes ≡ true → Asked c i 8 r)) ⌝ }
-{
-    let mut a = MoveNeeds {
-        on: 0,
-        off: 0,
-        expired: 0,
-        unexpired: 0,
-        ended: false,
-        passes: true,
-    };
-    let mut k = 0;
-    while k < 8 {
-        let v = tables::literal(moves, i, k);
-        let kind = tables::kind(v);
-        if !kind_passes(a, inputs, timers, kind) {
-            a.passes = false;
-            return a;
-        }
-        a = ask(a, tables::wanted(v), kind);
-        k += 1;
-    }
-    a
-}
-
-// Whether move i passes; what it asks for is kept, four words a move.
-pub fn literal_passes(
-    inputs: u32,
-    timers: usize,
-    moves: &[i16],
-    i: usize,
-    words: &mut [u64],
-) -> bool
-    ensures long { λ r. ⌜ length (now (words .exit)) ≡ length (now (words .entry)) ⌝ }
-    ensures { λ r. ⌜ ((c : Tables) → c .inputs ≡ inputs → timerCount c ≡ timers → c .moves ≡ now (moves .entry)
-        → (r ≡ literalPasses c i) × (r ≡ true → i < length (now (words .entry)) / 4 → WordsTo c i (now (words .entry))
-        → WordsTo c (suc i) (now (words .exit)))) ⌝ }
-{
-    let a = asks_of(inputs, timers, moves, i);
-    put_words(words, i, a);
-    a.passes
+    j
 }

@@ -16,7 +16,7 @@ use Rattle.meaning.specs.Check.{Check, firstFailing, verdictOf, sizePasses, hie
 use Rattle.meaning.specs.declared.Refusal.the-variants as R
 use Rattle.meaning.specs.declared.Verdict.{Verdict}
 use Rattle.meaning.specs.declared.Verdict.the-variants.{Accepted, Refused}
-use Rattle.check_needs.specs.Words.{WordsTo}
+use Rattle.check_needs.specs.Words.{needWords, WordsTo}
 use Rattle.check_tables.specs.declared.Rule.{Rule}
 use Rattle.check_tables.specs.declared.Rule.the-variants as L
 
@@ -55,15 +55,15 @@ stateChecks c = checkOf c L.Hierarchy ∷ checkOf c L.Initial ∷ []
 abbrev pub timerChecks : Tables → List Check
 timerChecks c = checkOf c L.Preset ∷ checkOf c L.TimerPair ∷ []
 
--- the checks before the moves, those of what the moves ask for, and all of the moves
+-- the checks before the moves, those of what the moves need, and all of the moves
 abbrev pub tableChecks : Tables → List Check
 tableChecks c = checkOf c L.Hierarchy ∷ checkOf c L.Initial ∷ checkOf c L.Preset ∷ checkOf c L.TimerPair ∷ checkOf c L.OutputPair ∷ []
 
-abbrev pub askChecks : Tables → List Check
-askChecks c = literalCheck c ∷ idleCheck c ∷ overlapCheck c ∷ []
+abbrev pub needChecks : Tables → List Check
+needChecks c = literalCheck c ∷ idleCheck c ∷ overlapCheck c ∷ []
 
 abbrev pub moveChecks : Tables → List Check
-moveChecks c = checkOf c L.Move ∷ askChecks c
+moveChecks c = checkOf c L.Move ∷ needChecks c
 
 -- "Refusals, in the order of checking"
 pub in-order : (c : Tables) → checks c ≡ ((sizeCheck c ∷ []) ++ (tableChecks c ++ (moveChecks c ++ (flipFlopCheck c ∷ []))))
@@ -140,15 +140,15 @@ rest-goes k ks e = elim (which (eqb (firstFailing k) (k .rows))) [
   | inr f ↦ absurd (true≢false (rw (verdictOf, f) at e))
 ]
 
--- ---- what the literals ask for
+-- ---- what the moves need
 
--- LITERAL has passed, and what the moves ask for is in these words
+-- LITERAL has passed, and what the moves need is in these words
 pub record LiteralsPassed (c : Tables) (ws : List ℕ) : Type 0 where
   pub pass : (i : ℕ) → i < moveCount c → literalPasses c i ≡ true
-  pub room : moveCount c ≤ length ws / 4
+  pub room : moveCount c ≤ length ws / needWords
   pub words : WordsTo c (moveCount c) ws
 
-pub worded : (c : Tables) (ws : List ℕ) {v : Verdict} → v ≡ verdictOf (literalCheck c ∷ []) → isRefused v ≡ false → moveCount c ≤ length ws / 4 → WordsTo c (moveCount c) ws → LiteralsPassed c ws
+pub worded : (c : Tables) (ws : List ℕ) {v : Verdict} → v ≡ verdictOf (literalCheck c ∷ []) → isRefused v ≡ false → moveCount c ≤ length ws / needWords → WordsTo c (moveCount c) ws → LiteralsPassed c ws
 worded c ws e f h w = record { pass = passed (literalCheck c) (ap isRefused (sym e) ∙ f); room = h; words = w }
 
 -- those of the first moves

@@ -1,4 +1,5 @@
 // The check of a chart's tables: document 01's refusals 1 to 11, "in the order of checking".
+use check_needs::Needs;
 use meaning::Refusal;
 use meaning::Verdict;
 use tables::Chart;
@@ -12,24 +13,24 @@ ghost use Rattle.meaning.specs.Check.{verdictOf};
 ghost use Rattle.tables.specs.Given.{tablesOf, Lent};
 ghost use Rattle.check_tree.specs.Falling.{Falling};
 ghost use Rattle.check_pairing.specs.Words.{Clear};
-ghost use Rattle.check_needs.specs.Words.{WordsTo};
+ghost use Rattle.check_needs.specs.Words.{needWords, WordsTo};
 ghost use Rattle.check_idle.specs.Leaves.{EarlierPassed, Full, Below, Sources};
 ghost use Rattle.check_tables.specs.Verdicts.{Checked, checkOf, literalCheck, idleCheck, overlapCheck};
-ghost use Rattle.check_tables.specs.Verdicts.{stateChecks, timerChecks, tableChecks, askChecks, moveChecks};
+ghost use Rattle.check_tables.specs.Verdicts.{stateChecks, timerChecks, tableChecks, needChecks, moveChecks};
 ghost use Rattle.check_tables.specs.Verdicts.{flipFlopCheck, isRefused, LiteralsPassed};
 
 // ---- 8 LITERAL
 
-// What the moves ask for is kept in words, four a move, for the two checks after this one.
-fn judge_literal(inputs: u32, timers: usize, moves: &[i16], asks: &mut [u64]) -> Verdict
+// What the moves need is kept in words for the two checks after this one.
+fn judge_literal(inputs: u32, timers: usize, moves: &[i16], needs: &mut [u64]) -> Verdict
     ensures { λ r. ⌜ ((c : Tables) → c .inputs ≡ inputs → timerCount c ≡ timers → c .moves ≡ now (moves .entry)
         → (r ≡ verdictOf (literalCheck c ∷ []))
-        × (isRefused r ≡ false → moveCount c ≤ length (now (asks .entry)) / 4
-        → WordsTo c (moveCount c) (now (asks .exit)))) ⌝ }
+        × (isRefused r ≡ false → moveCount c ≤ length (now (needs .entry)) / needWords
+        → WordsTo c (moveCount c) (now (needs .exit)))) ⌝ }
 {
     let mut i = 0;
     while i < moves.len() / Chart::MOVE_ROW {
-        if !check_needs::literal_passes(inputs, timers, moves, i, asks) {
+        if !check_literals::literal_passes(inputs, timers, moves, i, needs) {
             return Verdict::Refused(Refusal::Literal(i));
         }
         i += 1;
@@ -39,13 +40,13 @@ fn judge_literal(inputs: u32, timers: usize, moves: &[i16], asks: &mut [u64]) ->
 
 // ---- 9 IDLE TIMER
 
-fn judge_idle(moves: &[i16], asks: &[u64], below: &[u64]) -> Verdict
+fn judge_idle(moves: &[i16], needs: &[u64], below: &[u64]) -> Verdict
     ensures { λ r. ⌜ ((c : Tables) → c .moves ≡ now (moves .entry) → Below c (now (below .entry)) → Sources c
-        → LiteralsPassed c (now (asks .entry)) → r ≡ verdictOf (idleCheck c ∷ [])) ⌝ }
+        → LiteralsPassed c (now (needs .entry)) → r ≡ verdictOf (idleCheck c ∷ [])) ⌝ }
 {
     let mut i = 0;
     while i < moves.len() / Chart::MOVE_ROW {
-        if !check_idle::idle_passes(moves, asks, below, i) {
+        if !check_idle::idle_passes(moves, needs, below, i) {
             return Verdict::Refused(Refusal::IdleTimer(i));
         }
         i += 1;
@@ -59,47 +60,47 @@ fn judge_running(
     states: &[u16],
     moves: &[i16],
     timer_pairs: &[u16],
-    asks: &[u64],
+    needs: &[u64],
     running: &mut [u64],
     below: &mut [u64],
 ) -> Verdict
     ensures { λ r. ⌜ ((c : Tables) → c .states ≡ now (states .entry) → c .moves ≡ now (moves .entry)
         → c .timerPairs ≡ now («timer_pairs» .entry) → EarlierPassed c → Sources c
-        → LiteralsPassed c (now (asks .entry)) → stateCount c ≤ length (now (running .entry))
+        → LiteralsPassed c (now (needs .entry)) → stateCount c ≤ length (now (running .entry))
         → stateCount c ≤ length (now (below .entry)) → Clear (now (running .entry)) → Full (now (below .entry))
         → r ≡ verdictOf (idleCheck c ∷ [])) ⌝ }
 {
     check_pairing::paired_words(states, timer_pairs, running);
     check_idle::run_below(states, running, below);
-    judge_idle(moves, asks, below)
+    judge_idle(moves, needs, below)
 }
 
 // A chart of few states has small arrays to clear.
-fn judge_timers(states: &[u16], moves: &[i16], timer_pairs: &[u16], asks: &[u64]) -> Verdict
+fn judge_timers(states: &[u16], moves: &[i16], timer_pairs: &[u16], needs: &[u64]) -> Verdict
     ensures { λ r. ⌜ ((c : Tables) → c .states ≡ now (states .entry) → c .moves ≡ now (moves .entry)
         → c .timerPairs ≡ now («timer_pairs» .entry) → EarlierPassed c → Sources c
-        → LiteralsPassed c (now (asks .entry)) → r ≡ verdictOf (idleCheck c ∷ [])) ⌝ }
+        → LiteralsPassed c (now (needs .entry)) → r ≡ verdictOf (idleCheck c ∷ [])) ⌝ }
 {
     if states.len() / 2 <= 16 {
         let mut running = [0u64; 16];
         let mut below = [18446744073709551615u64; 16];
-        return judge_running(states, moves, timer_pairs, asks, &mut running, &mut below);
+        return judge_running(states, moves, timer_pairs, needs, &mut running, &mut below);
     }
     let mut running = [0u64; 256];
     let mut below = [18446744073709551615u64; 256];
-    judge_running(states, moves, timer_pairs, asks, &mut running, &mut below)
+    judge_running(states, moves, timer_pairs, needs, &mut running, &mut below)
 }
 
 // ---- 10 OVERLAP
 
 // "an earlier move overlaps it": once the hierarchy has passed, because the search for a source above stops early then.
-fn judge_overlap(states: &[u16], moves: &[i16], asks: &[u64]) -> Verdict
+fn judge_overlap(states: &[u16], moves: &[i16], needs: &[u64]) -> Verdict
     ensures { λ r. ⌜ ((c : Tables) → c .states ≡ now (states .entry) → c .moves ≡ now (moves .entry) → Falling c
-        → LiteralsPassed c (now (asks .entry)) → r ≡ verdictOf (overlapCheck c ∷ [])) ⌝ }
+        → LiteralsPassed c (now (needs .entry)) → r ≡ verdictOf (overlapCheck c ∷ [])) ⌝ }
 {
     let mut i = 0;
     while i < moves.len() / Chart::MOVE_ROW {
-        if !check_overlap::overlap_passes(states, moves, asks, i) {
+        if !check_overlap::overlap_passes(states, moves, needs, i) {
             return Verdict::Refused(Refusal::Overlap(i));
         }
         i += 1;
@@ -255,7 +256,7 @@ fn judge_states(
     )
 }
 
-// 4 and 5: what the timers are, and what is paired with them.
+// needWords and 5: what the timers are, and what is paired with them.
 fn judge_presets(
     chart: Chart,
     states: &[u16],
@@ -323,29 +324,29 @@ fn judge_tables(
     )
 }
 
-// 8 to 10, over four lent words a move.
-fn judge_asks(
+// 8 to 10, over lent words for what the moves need.
+fn judge_needs(
     inputs: u32,
     states: &[u16],
     moves: &[i16],
     presets: &[u32],
     timer_pairs: &[u16],
-    asks: &mut [u64],
+    needs: &mut [u64],
 ) -> Verdict
     ensures { λ r. ⌜ ((c : Tables) → c .inputs ≡ inputs → c .states ≡ now (states .entry)
         → c .moves ≡ now (moves .entry) → c .presets ≡ now (presets .entry)
         → c .timerPairs ≡ now («timer_pairs» .entry) → EarlierPassed c → Sources c
-        → moveCount c ≤ length (now (asks .entry)) / 4 → r ≡ verdictOf (askChecks c)) ⌝ }
+        → moveCount c ≤ length (now (needs .entry)) / needWords → r ≡ verdictOf (needChecks c)) ⌝ }
 {
-    let literal = judge_literal(inputs, presets.len(), moves, asks);
+    let literal = judge_literal(inputs, presets.len(), moves, needs);
     if refused(literal) {
         return literal;
     }
-    let idle = judge_timers(states, moves, timer_pairs, asks);
+    let idle = judge_timers(states, moves, timer_pairs, needs);
     if refused(idle) {
         return idle;
     }
-    judge_overlap(states, moves, asks)
+    judge_overlap(states, moves, needs)
 }
 
 // 7 to 10: the moves. A chart of few of them has a small array to clear.
@@ -376,11 +377,11 @@ fn judge_moves(
     }
     let inputs = chart.inputs;
     if moves.len() / Chart::MOVE_ROW <= 16 {
-        let mut asks = [0u64; 64];
-        return judge_asks(inputs, states, moves, presets, timer_pairs, &mut asks);
+        let mut needs = [0u64; 16 * Needs::WORDS];
+        return judge_needs(inputs, states, moves, presets, timer_pairs, &mut needs);
     }
-    let mut asks = [0u64; 2048];
-    judge_asks(inputs, states, moves, presets, timer_pairs, &mut asks)
+    let mut needs = [0u64; 512 * Needs::WORDS];
+    judge_needs(inputs, states, moves, presets, timer_pairs, &mut needs)
 }
 
 // 11 FLIP-FLOPS

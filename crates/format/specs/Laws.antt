@@ -18,3 +18,4 @@ pub mod TextReader
 pub mod Bytes
 pub mod Compute
 pub mod Lamp
+pub mod NeedsCases

@@ -7,7 +7,9 @@ pub mod Places
 pub mod TextWritten
 pub mod Records
 pub mod Printed
+pub mod NeedsTable
 pub mod Lamp
+pub mod NeedsCases
 -- the automata that the reader's code follows: proved to do what the definitions say
 pub mod Automata
 -- laws

@@ -45,6 +45,10 @@ nested ms = record {
 unfoldable pub returning : Tables
 returning = nested (move 3 4 0 (pos 1) (negsuc 1) (move 1 2 0 (pos 2) (pos 0) (move 2 1 1 (negsuc 1) (pos 0) [])))
 
+-- "with 1 to 2 on [2] and 3 to 4 on [1]"
+unfoldable pub overlapping : Tables
+overlapping = nested (move 1 2 0 (pos 2) (pos 0) (move 3 4 0 (pos 1) (pos 0) []))
+
 -- "sub-states 1, 2, 3, initial 2", and "presets 200, 250, 300, 301"
 unfoldable pub three : Tables
 three = record {
@@ -78,5 +82,5 @@ pub record Cases : Type 0 where
   pub e-read : leavesOf (historyReading returning (1 ∷ 2 ∷ 0 ∷ [])) ≡ 4 ∷ 2 ∷ 4 ∷ []
   pub f : leavesOf (trace returning (startState returning) (2 ∷ 0 ∷ [])) ≡ 2 ∷ 3 ∷ []
   pub f-read : leavesOf (historyReading returning (2 ∷ 0 ∷ [])) ≡ 2 ∷ 3 ∷ []
-  pub g : verdict (nested (move 1 2 0 (pos 2) (pos 0) (move 3 4 0 (pos 1) (pos 0) []))) ≡ Refused (R.Overlap 1)
+  pub g : verdict overlapping ≡ Refused (R.Overlap 1)
   pub h : verdict (nested (move 1 2 0 (negsuc 32767) (pos 0) [])) ≡ Refused (R.Literal 0)

@@ -2,7 +2,7 @@
 -- here are for computing; what each check is about stands in document 01's words in Rules.antt, and
 -- Laws/Rules.antt proves that each test passes exactly where its rule is kept (OVERLAP: where LITERAL passes).
 use Prim.Native.Nat.{ℕ, suc, _-_, _%_}
-use mathlib.Core.Bool.{Bool, true, false, _&&_, _||_, not, cond, Bool·beq}
+use mathlib.Core.Bool.{Bool, true, false, _&&_, _||_, not, cond}
 use mathlib.Core.List.{List, [], _∷_}
 use lib.ListN.{length}
 use lib.Dec.{leb, ltb, eqb}
@@ -17,7 +17,8 @@ use Rattle.meaning.specs.Tables.{source}
 use Rattle.meaning.specs.Tables.{target, literal, preset, pairNumber, pairState}
 use Rattle.meaning.specs.Hierarchy.{depth, atOrAbove, subState, isLeaf, timerRuns}
 use Rattle.meaning.specs.Layout.{flipFlopCount}
-use Rattle.meaning.specs.Literals.{between, kindOf, wanted}
+use Rattle.meaning.specs.Literals.{between, kindOf}
+use Rattle.meaning.specs.Needs.{clash}
 use Rattle.meaning.specs.declared.Kind.{Kind}
 use Rattle.meaning.specs.declared.Kind.the-variants.{Unused, Input, Timer, Unknown}
 use Rattle.meaning.specs.declared.Refusal.{Refusal}
@@ -102,19 +103,17 @@ runsBelow c s Unknown = true
 unfoldable pub idlePasses : Tables → ℕ → Bool
 idlePasses c i = every (λ j. runsBelow c (source c i) (kindOf (natAbs (literal c i j)))) 0 literalPlaces
 
--- one asks for on what the other asks for off
-unfoldable pub opposed : ℤ → ℤ → Bool
-opposed y z = not (eqb (natAbs y) 0) && eqb (natAbs y) (natAbs z) && not (Bool·beq (wanted y) (wanted z))
-
-unfoldable pub clash : Tables → ℕ → ℕ → Bool
-clash c i j = some (λ a. some (λ b. opposed (literal c i a) (literal c j b)) 0 literalPlaces) 0 literalPlaces
-
--- the test for Overlap of Rules.antt
+-- the test for Overlap of Rules.antt: near, and no clash; it says the same where the literals of both moves pass
 unfoldable pub overlaps : Tables → ℕ → ℕ → Bool
 overlaps c i j = (atOrAbove c (source c i) (source c j) || atOrAbove c (source c j) (source c i)) && not (clash c i j)
 
 unfoldable pub overlapPasses : Tables → ℕ → Bool
 overlapPasses c i = not (some (overlaps c i) 0 i)
+
+-- OVERLAP's place is the later of two moves; this is the earlier, the least that overlaps move i. It is asked only
+-- where OVERLAP fails; with none it is i.
+unfoldable pub earlier : Tables → ℕ → ℕ
+earlier c i = least (overlaps c i) 0 i
 
 unfoldable pub flipFlopPasses : Tables → Bool
 flipFlopPasses c = leb (flipFlopCount c) mostFlipFlops

@@ -5,6 +5,7 @@ pub mod Once
 pub mod Hierarchy
 pub mod Layout
 pub mod Tree
+pub mod Needs
 pub mod Overlap
 pub mod Rules
 pub mod Verdict

@@ -3,6 +3,7 @@ pub mod Rows
 pub mod Tables
 pub mod Hierarchy
 pub mod Literals
+pub mod Needs
 pub mod Layout
 pub mod Rules
 pub mod Check

@@ -1,14 +1,15 @@
 -- The lines of a run from its leaves and its output words, and that they are those of format's Printed.antt.
 use mathlib.Core.Path.{_≡_, refl, sym, ap, _∙_}
-use Prim.Native.Nat.{ℕ, zero, suc, _+_, _<_}
+use Prim.Native.Nat.{ℕ, zero, suc, _+_, _<_, _≤_}
 use native.Mathlib.Omega.{arith}
 use mathlib.Core.List.{List, [], _∷_, _++_, map, append-assoc, append-nil}
-use lib.ListN.{length, getD, take}
+use lib.ListN.{length, getD, take, length-append}
 use Rattle.meaning.specs.Machine.{Seen}
 use Rattle.meaning.specs.Refusals.{numberOf, placeOf}
 use Rattle.meaning.specs.declared.Refusal.{Refusal}
 use Rattle.format.specs.Text.{bytes, decimal, line}
 use Rattle.format.specs.Printed.{comma, scanLines, refusalLine}
+use Rattle.format.specs.Laws.Decimals.{decimal-few}
 
 -- ",a,b" and LF
 abbrev pub endOf : ℕ → ℕ → List ℕ
@@ -31,6 +32,20 @@ line-parts w a b = simp append-assoc
 pub refusal-parts : (r : Refusal) → refusalLine r ≡ bytes "REFUSED" ++ endOf (numberOf r) (placeOf r)
 unfolding refusalLine
 refusal-parts r = line-parts (bytes "REFUSED") (numberOf r) (placeOf r)
+
+-- how long a line is: two decimals of at most 20 digits behind its first part
+pub end-few : (w : List ℕ) (a b : ℕ) → length (w ++ endOf a b) ≤ length w + 43
+end-few w a b = omega (
+  arith,
+  length-append w (endOf a b),
+  length-append (decimal a) (44 ∷ (decimal b ++ (10 ∷ []))),
+  length-append (decimal b) (10 ∷ []),
+  decimal-few a,
+  decimal-few b,
+)
+
+pub refusal-few : (r : Refusal) → length (refusalLine r) ≤ 50
+refusal-few r = rw (refusal-parts r) (end-few (bytes "REFUSED") (numberOf r) (placeOf r))
 
 pub lines-are : (n : ℕ) (ss : List Seen) → scanLinesFrom n (map (λ (s : Seen). s .leaf) ss) (map (λ (s : Seen). s .outputs) ss) ≡ scanLines n ss
 unfolding scanLinesFrom scanLines

@@ -1,12 +1,19 @@
 // What the program prints beside the text: "a line a scan: scan from 1, leaf, outputs as a number", or "On refusal
 // only "REFUSED,number,place"".
 use meaning::Refusal;
+use meaning::Verdict;
 ghost use mathlib.Core.Path.{_≡_};
 ghost use mathlib.Core.List.{_++_};
 ghost use lib.ListN.{length};
 ghost use Rattle.format.specs.Printed.{refusalLine};
 ghost use Rattle.write_lines.specs.Put.{BytesPut};
 ghost use Rattle.print_lines.specs.Results.{endOf, scanLine, scanLinesFrom};
+
+// How many bytes are printed, and why nothing else is.
+pub struct Printed {
+    pub length: usize,
+    pub verdict: Verdict,
+}
 
 const COMMA: u8 = 44;
 

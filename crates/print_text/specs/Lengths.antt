@@ -16,7 +16,10 @@ use Rattle.format.specs.Text.{bytes, decimal}
 use Rattle.format.specs.Laws.Decimals.{decimal-few}
 use Rattle.format.specs.Printed.{chartText, roomCheck, scanLines, refusalLine, mostText}
 use Rattle.check_tables.specs.Verdicts.{isRefused, go, passed}
-use Rattle.print_lines.specs.Results.{endOf, scanLinesFrom, refusal-parts, lines-are}
+use Rattle.print_lines.specs.Results.{endOf, scanLinesFrom, end-few, refusal-few, lines-are}
+use Rattle.print_needs.specs.Lengths.{mostNeeds, needs-page-few}
+use Rattle.print_text.specs.declared.PageKind.{PageKind}
+use Rattle.print_text.specs.declared.PageKind.the-variants.{Text, Needs}
 use Rattle.print_text.specs.Print.{pageVerdict, printedOf}
 use Rattle.print_text.specs.Ran.{page-tables}
 
@@ -24,9 +27,10 @@ use Rattle.print_text.specs.Ran.{page-tables}
 abbrev pub mostPrinted : ℕ
 mostPrinted = 323584
 
-end-few : (w : List ℕ) (a b : ℕ) → length (w ++ endOf a b) ≤ length w + 43
-end-few w a b =
-    omega (arith, length-append w (endOf a b), length-append (decimal a) (44 ∷ (decimal b ++ (10 ∷ []))), length-append (decimal b) (10 ∷ []), decimal-few a, decimal-few b)
+-- how much room a page is given
+abbrev pub pageRoom : PageKind → ℕ
+pageRoom Text = mostPrinted
+pageRoom Needs = mostNeeds
 
 lines-few : (n : ℕ) (ls os : List ℕ) → length (scanLinesFrom n ls os) ≤ 63 * length ls
 unfolding scanLinesFrom
@@ -44,23 +48,22 @@ scan-lines-few : (n : ℕ) (ss : List Seen) → length (scanLines n ss) ≤ 63 *
 scan-lines-few n ss = rw (← lines-are n ss)
     (omega (arith, lines-few n (map (λ (s : Seen). s .leaf) ss) (map (λ (s : Seen). s .outputs) ss), length-map ss (λ (s : Seen). s .leaf)))
 
-refusal-few : (r : Refusal) → length (refusalLine r) ≤ 50
-refusal-few r = rw (refusal-parts r) (end-few (bytes "REFUSED") (numberOf r) (placeOf r))
-
-text-few : (c : Tables) → pageVerdict c ≡ Accepted → length (chartText c) ≤ mostText
+text-few : (c : Tables) → pageVerdict Text c ≡ Accepted → length (chartText c) ≤ mostText
 text-few c e = leb-true (length (chartText c)) mostText (unfold roomCheck in (passed (roomCheck c mostText) (ap isRefused (room-accepted e)) 0 (omega arith)))
   where
-    room-accepted : pageVerdict c ≡ Accepted → verdictOf (roomCheck c mostText ∷ []) ≡ Accepted
+    room-accepted : pageVerdict Text c ≡ Accepted → verdictOf (roomCheck c mostText ∷ []) ≡ Accepted
     room-accepted e = unfold pageVerdict verdict in (sym (go (checks c) (roomCheck c mostText ∷ []) (ap isRefused (page-tables c e))) ∙ e)
 
-pub refusal-short : (c : Tables) (xs : List ℕ) (r : Refusal) → length (printedOf c xs (Refused r)) ≤ mostPrinted
+pub refusal-short : (page : PageKind) (r : Refusal) → length (refusalLine r) ≤ pageRoom page
+refusal-short Text r = omega (arith, refusal-few r)
+refusal-short Needs r = omega (arith, refusal-few r)
+
+text-page-few : (c : Tables) (xs : List ℕ) → length xs ≤ 4096 → (v : Verdict) → pageVerdict Text c ≡ v → length (printedOf Text c xs v) ≤ mostPrinted
 unfolding printedOf
-refusal-short c xs r = omega (arith, refusal-few r)
+text-page-few c xs h Accepted e = omega (arith, length-append (chartText c) (scanLines 1 (trace c (startState c) xs)), text-few c e, scan-lines-few 1 (trace c (startState c) xs), trace-long c (startState c) xs)
+text-page-few c xs h (Refused r) e = refusal-short Text r
 
 -- whatever the tables, with no more scans than a file may have
-pub printed-few : (c : Tables) (xs : List ℕ) → length xs ≤ 4096 → length (printedOf c xs (pageVerdict c)) ≤ mostPrinted
-printed-few c xs h = by (pageVerdict c) refl
-  where
-    by : (v : Verdict) → pageVerdict c ≡ v → length (printedOf c xs v) ≤ mostPrinted
-    by Accepted e = unfold printedOf in (omega (arith, length-append (chartText c) (scanLines 1 (trace c (startState c) xs)), text-few c e, scan-lines-few 1 (trace c (startState c) xs), trace-long c (startState c) xs))
-    by (Refused r) e = refusal-short c xs r
+pub printed-few : (page : PageKind) (c : Tables) (xs : List ℕ) → length xs ≤ 4096 → length (printedOf page c xs (pageVerdict page c)) ≤ pageRoom page
+printed-few Text c xs h = text-page-few c xs h (pageVerdict Text c) refl
+printed-few Needs c xs h = unfold printedOf pageVerdict in (needs-page-few c)

@@ -1,4 +1,4 @@
--- What is printed, from what the seven readers of records answered and stored. That this is what format's Printed.antt says of the files is in Prints.antt.
+-- What is printed on either page, from what the seven readers of records answered and stored. That this is what format's Printed.antt and NeedsTable.antt say of the files is in Prints.antt.
 use mathlib.Core.Path.{_≡_, refl, sym, ap, _∙_}
 use Prim.Native.Nat.{ℕ, zero, suc, _+_, _*_, min}
 use native.Mathlib.Omega.{arith}
@@ -8,28 +8,34 @@ use lib.ListN.{length, getD, take, replicate, length-map, length-replicate, drop
 use lib.Seq.{sets, take-all, sets-eq}
 use lib.IntN.{pos}
 use Rattle.meaning.specs.Tables.{Tables, moveRow}
-use Rattle.meaning.specs.Check.{checks, verdictOf}
+use Rattle.meaning.specs.Check.{checks, verdictOf, verdict}
 use Rattle.meaning.specs.Machine.{startState, trace}
 use Rattle.meaning.specs.declared.Refusal.{Refusal}
 use Rattle.meaning.specs.declared.Verdict.{Verdict}
 use Rattle.meaning.specs.declared.Verdict.the-variants.{Accepted, Refused}
 use Rattle.format.specs.Printed.{mostText, chartText, roomCheck, scanLines, refusalLine}
+use Rattle.format.specs.NeedsTable.{needsPage}
 use Rattle.csv_value.specs.Decimals.{signedOf}
 use Rattle.csv_columns.specs.Low.{low16, low32}
 use Rattle.write_lines.specs.Put.{BytesPut}
 use Rattle.print_lines.specs.Results.{scanLinesFrom}
 use Rattle.csv_tables.specs.declared.Answers.{Answers}
 use Rattle.csv_tables.specs.Told.{rowsOf, fieldVerdict}
-use Rattle.print_text.specs.declared.Printed.{Printed}
+use Rattle.print_lines.specs.declared.Printed.{Printed}
+use Rattle.print_needs.specs.Page.{NeedsPrintedTo}
+use Rattle.print_text.specs.declared.PageKind.{PageKind}
+use Rattle.print_text.specs.declared.PageKind.the-variants.{Text, Needs}
 
--- the refusals after FIELD
-unfoldable pub pageVerdict : Tables → Verdict
-pageVerdict c = verdictOf (checks c ++ (roomCheck c mostText ∷ []))
+-- the refusals after FIELD; ROOM is looked for where a text is written
+unfoldable pub pageVerdict : PageKind → Tables → Verdict
+pageVerdict Text c = verdictOf (checks c ++ (roomCheck c mostText ∷ []))
+pageVerdict Needs c = verdict c
 
 -- what is printed for tables, input words and a verdict
-unfoldable pub printedOf : Tables → List ℕ → Verdict → List ℕ
-printedOf c xs Accepted = chartText c ++ scanLines 1 (trace c (startState c) xs)
-printedOf c xs (Refused r) = refusalLine r
+unfoldable pub printedOf : PageKind → Tables → List ℕ → Verdict → List ℕ
+printedOf Text c xs Accepted = chartText c ++ scanLines 1 (trace c (startState c) xs)
+printedOf Text c xs (Refused r) = refusalLine r
+printedOf Needs c xs v = needsPage c v
 
 -- what an array of m numbers in a table's type has of k stored numbers
 unfoldable pub narrowed : {A : Type 0} → A → ℕ → (ℕ → A) → ℕ → List ℕ → List A
@@ -55,32 +61,40 @@ abbrev pub both : Verdict → Verdict → Verdict
 both Accepted v = v
 both (Refused r) v = Refused r
 
+-- FIELD is one line on either page
+abbrev pub afterField : Verdict → List ℕ → List ℕ
+afterField Accepted w = w
+afterField (Refused r) w = refusalLine r
+
 -- ---- contracts
 
--- a call that writes what is printed to the front of l
-pub record PrintedTo (v : Verdict) (c : Tables) (xs l : List ℕ) (p : Printed) (m : List ℕ) : Type 0 where
+-- a call with the verdict v that writes w to the front of l
+pub record PrintedTo (v : Verdict) (w l : List ℕ) (p : Printed) (m : List ℕ) : Type 0 where
   pub why : p .verdict ≡ v
-  pub written : BytesPut l 0 (printedOf c xs v) m (p .length)
+  pub written : BytesPut l 0 w m (p .length)
 
-pub record TextPrinted (n : ℕ) (text leaves outputs l : List ℕ) (p : Printed) (m : List ℕ) : Type 0 where
-  pub why : p .verdict ≡ Accepted
-  pub written : BytesPut l 0 (take n text ++ scanLinesFrom 1 leaves outputs) m (p .length)
+abbrev pub TextPrinted : ℕ → List ℕ → List ℕ → List ℕ → List ℕ → Printed → List ℕ → Type 0
+TextPrinted n text leaves outputs l p m = PrintedTo Accepted (take n text ++ scanLinesFrom 1 leaves outputs) l p m
 
-abbrev pub RowsPrinted : Answers → List ℕ → List ℕ → List ℕ → List ℕ → List ℕ → List ℕ → List ℕ → List ℕ → Printed → List ℕ → Type 0
-RowsPrinted a frame states moves presets timerPairs outputPairs scans l p m = (let c = heldTables a frame states moves presets timerPairs outputPairs in PrintedTo (pageVerdict c) c (heldScans a scans) l p m)
+abbrev pub TablesPrinted : PageKind → Tables → List ℕ → List ℕ → Printed → List ℕ → Type 0
+TablesPrinted page c xs l p m = PrintedTo (pageVerdict page c) (printedOf page c xs (pageVerdict page c)) l p m
 
-abbrev pub FilesPrinted : Answers → List ℕ → List ℕ → List ℕ → List ℕ → List ℕ → List ℕ → List ℕ → List ℕ → Printed → List ℕ → Type 0
-FilesPrinted a frame states moves presets timerPairs outputPairs scans l p m = (let c = heldTables a frame states moves presets timerPairs outputPairs in
-    PrintedTo (both (fieldVerdict a) (pageVerdict c)) c (heldScans a scans) l p m)
+abbrev pub RowsPrinted : PageKind → Answers → List ℕ → List ℕ → List ℕ → List ℕ → List ℕ → List ℕ → List ℕ → List ℕ → Printed → List ℕ → Type 0
+RowsPrinted page a frame states moves presets timerPairs outputPairs scans l p m = TablesPrinted page (heldTables a frame states moves presets timerPairs outputPairs) (heldScans a scans) l p m
+
+abbrev pub FilesPrinted : PageKind → Answers → List ℕ → List ℕ → List ℕ → List ℕ → List ℕ → List ℕ → List ℕ → List ℕ → Printed → List ℕ → Type 0
+FilesPrinted page a frame states moves presets timerPairs outputPairs scans l p m = (let c = heldTables a frame states moves presets timerPairs outputPairs in
+    PrintedTo (both (fieldVerdict a) (pageVerdict page c)) (afterField (fieldVerdict a) (printedOf page c (heldScans a scans) (pageVerdict page c))) l p m)
 
 -- no second answer
-pub one-print : (v : Verdict) (c : Tables) (xs l m n : List ℕ) (p q : Printed) → PrintedTo v c xs l p m → PrintedTo v c xs l q n → (p ≡ q) × (m ≡ n)
-one-print v c xs l m n p q f g =
+pub one-print : (v : Verdict) (w l m n : List ℕ) (p q : Printed) → PrintedTo v w l p m → PrintedTo v w l q n → (p ≡ q) × (m ≡ n)
+one-print v w l m n p q f g =
     (λ i. record { length = (f .written .next ∙ sym (g .written .next)) i; verdict = (f .why ∙ sym (g .why)) i }, f .written .list ∙ sym (g .written .list))
 
-pub one-page : (a : Answers) (frame states moves presets timerPairs outputPairs scans l m n : List ℕ) (p q : Printed) → FilesPrinted a frame states moves presets timerPairs outputPairs scans l p m
-    → FilesPrinted a frame states moves presets timerPairs outputPairs scans l q n → (p ≡ q) × (m ≡ n)
-one-page a frame states moves presets timerPairs outputPairs scans l m n p q = let c = heldTables a frame states moves presets timerPairs outputPairs in one-print (both (fieldVerdict a) (pageVerdict c)) c (heldScans a scans) l m n p q
+-- the page of needs, as it is written
+pub needs-printed : (c : Tables) (xs l : List ℕ) (p : Printed) (m : List ℕ) → NeedsPrintedTo c l p m → TablesPrinted Needs c xs l p m
+unfolding pageVerdict printedOf
+needs-printed c xs l p m q = record { why = q .why; written = q .written }
 
 -- ---- the numbers in their types
 
@@ -116,15 +130,14 @@ pub scans-part : (k n m : ℕ) (l : List ℕ) → n ≡ min k m → take (min n 
 scans-part k n m l e = take-least n (length l) l refl ∙ rw e
 
 -- tables and input words that are the same are printed the same
-pub same-printed : (c k : Tables) (xs ys l : List ℕ) (p : Printed) (m : List ℕ) → c ≡ k → xs ≡ ys → PrintedTo (pageVerdict c) c xs l p m → PrintedTo (pageVerdict k) k ys l p m
-same-printed c k xs ys l p m e f q = rw (← e, ← f) q
+pub same-printed : (page : PageKind) (c k : Tables) (xs ys l : List ℕ) (p : Printed) (m : List ℕ) → c ≡ k → xs ≡ ys → TablesPrinted page c xs l p m → TablesPrinted page k ys l p m
+same-printed page c k xs ys l p m e f q = rw (← e, ← f) q
 
 -- FIELD, or what comes after it
-pub printed-refused : (a : Answers) (frame states moves presets timerPairs outputPairs scans l : List ℕ) (p : Printed) (m : List ℕ) (q : Refusal) → fieldVerdict a ≡ Refused q
-    → PrintedTo (Refused q) (heldTables a frame states moves presets timerPairs outputPairs) (heldScans a scans) l p m
-    → FilesPrinted a frame states moves presets timerPairs outputPairs scans l p m
-printed-refused a frame states moves presets timerPairs outputPairs scans l p m q e r = rw e r
+pub printed-refused : (page : PageKind) (a : Answers) (frame states moves presets timerPairs outputPairs scans l : List ℕ) (p : Printed) (m : List ℕ) (q : Refusal) → fieldVerdict a ≡ Refused q
+    → PrintedTo (Refused q) (refusalLine q) l p m → FilesPrinted page a frame states moves presets timerPairs outputPairs scans l p m
+printed-refused page a frame states moves presets timerPairs outputPairs scans l p m q e r = rw e r
 
-pub printed-rows : (a : Answers) (frame states moves presets timerPairs outputPairs scans l : List ℕ) (p : Printed) (m : List ℕ) → fieldVerdict a ≡ Accepted
-    → RowsPrinted a frame states moves presets timerPairs outputPairs scans l p m → FilesPrinted a frame states moves presets timerPairs outputPairs scans l p m
-printed-rows a frame states moves presets timerPairs outputPairs scans l p m e r = rw e r
+pub printed-rows : (page : PageKind) (a : Answers) (frame states moves presets timerPairs outputPairs scans l : List ℕ) (p : Printed) (m : List ℕ) → fieldVerdict a ≡ Accepted
+    → RowsPrinted page a frame states moves presets timerPairs outputPairs scans l p m → FilesPrinted page a frame states moves presets timerPairs outputPairs scans l p m
+printed-rows page a frame states moves presets timerPairs outputPairs scans l p m e r = rw e r

@@ -1,30 +1,26 @@
--- The theorem of the program: whatever the seven files hold, and in whatever pieces they are read, its calls give what format's Printed.antt says.
+-- The theorem of the program: whatever the seven files hold, and in whatever pieces they are read, its calls give what format's Printed.antt says, and NeedsTable.antt of the other page.
 use mathlib.Core.Path.{_≡_, refl, sym, ap, _∙_}
 use mathlib.Core.Logic.{inl, inr}
-use Prim.Native.Nat.{ℕ, suc, _+_, _*_, _%_, _≤_, _<_, min}
+use Prim.Native.Nat.{ℕ, _+_, _*_, _≤_, min}
 use native.Mathlib.Omega.{arith}
 use native.Mathlib.Decide.{decLe}
-use native.Mathlib.Nat.{mul-zero, mul-suc}
-use mathlib.Core.Bool.{Bool, true, false, not}
-use mathlib.Core.List.{List, [], _∷_, _++_, map, flatMap, append-nil, append-assoc}
-use lib.ListN.{length, getD, take, drop, length-append, length-map, length-take, List·getD-map}
-use lib.Seq.{sets, sets-eq, length-sets, set-out, set-append-seam, take-all, take-at}
-use lib.Dec.{leb, ltb, eqb}
+use mathlib.Core.List.{List, [], _∷_, _++_, map}
+use lib.ListN.{length, getD, take, drop, length-map, length-take, List·getD-map}
+use lib.Seq.{sets, sets-eq, length-sets, take-all, take-at}
+use lib.Dec.{ltb, eqb}
 use lib.IntN.{pos}
-use borrow.Author.Tests.{not-false, eqb-true, leb-true, ltb-true}
-use Rattle.meaning.specs.Programs.{all}
-use Rattle.meaning.specs.Rows.{least}
-use Rattle.meaning.specs.Laws.Rows.{which, and-l, and-r, least-before}
-use Rattle.meaning.specs.Tables.{Tables, stateRow, moveRow, pairRow, stateCount, moveCount, timerCount, pairCount}
-use Rattle.meaning.specs.Rules.{SizeRule}
-use Rattle.meaning.specs.Laws.Rules.{size-tells}
-use Rattle.meaning.specs.Check.{Check, checks, firstFailing, verdictOf, sizePasses}
+use borrow.Author.Tests.{ltb-true}
+use Rattle.meaning.specs.Laws.Rows.{which, and-l, and-r}
+use Rattle.meaning.specs.Tables.{Tables, stateRow, moveRow, pairRow}
+use Rattle.meaning.specs.Check.{Check, checks, firstFailing, verdictOf, verdict}
+use Rattle.meaning.specs.Refusals.{numberOf}
 use Rattle.meaning.specs.declared.Refusal.{Refusal}
 use Rattle.meaning.specs.declared.Refusal.the-variants as R
 use Rattle.meaning.specs.declared.Verdict.{Verdict}
 use Rattle.meaning.specs.declared.Verdict.the-variants.{Accepted, Refused}
-use Rattle.format.specs.Records.{Column, records, fields, fieldValue, recordPasses, numbers}
-use Rattle.format.specs.Printed.{Files, unsigned, signed16, recordAt, fileCheck, frameCheck, scansFileCheck, fieldChecks, naturals, tables, printedVerdict, printedAs, printed}
+use Rattle.format.specs.Records.{records, recordPasses, numbers}
+use Rattle.format.specs.Printed.{Files, unsigned, signed16, recordAt, fileCheck, frameCheck, scansFileCheck, fieldChecks, naturals, tables, refusalLine, printedVerdict, printedAs, printed}
+use Rattle.format.specs.NeedsTable.{needsKnown, needsPage, needsVerdict, needsPrinted}
 use Rattle.csv_field.specs.Field.{most64}
 use Rattle.csv_value.specs.Decimals.{signedOf}
 use Rattle.csv_records.specs.declared.RecordsAnswer.{RecordsAnswer}
@@ -35,15 +31,20 @@ use Rattle.csv_records.specs.Automaton.{feedAll, emitted, Fed, Finished}
 use Rattle.csv_records.specs.Pieces.{pieces-join}
 use Rattle.csv_records.specs.Fields.{storedNumber}
 use Rattle.csv_records.specs.Reading.{answered}
-use Rattle.csv_records.specs.Files.{Read, Calls, read-frame, read-states, read-moves, read-presets, read-pairs, read-scans, stored-are, moves-are}
+use Rattle.csv_records.specs.Files.{Calls, read-frame, read-states, read-moves, read-presets, read-pairs, read-scans, stored-are, moves-are}
 use Rattle.check_tables.specs.Verdicts.{isRefused, stop, go}
 use Rattle.csv_columns.specs.Low.{low16, low32}
 use Rattle.write_lines.specs.Put.{BytesPut}
 use Rattle.csv_tables.specs.declared.Answers.{Answers}
 use Rattle.csv_tables.specs.Told.{rowsOf, later, fieldVerdict}
-use Rattle.print_text.specs.declared.Printed.{Printed}
-use Rattle.print_text.specs.Lengths.{mostPrinted, printed-few, refusal-short}
-use Rattle.print_text.specs.Print.{pageVerdict, printedOf, heldTables, heldScans, PrintedTo, FilesPrinted, map-take, narrowed, narrowed-front}
+use Rattle.print_lines.specs.declared.Printed.{Printed}
+use Rattle.print_needs.specs.Lengths.{mostNeeds}
+use Rattle.print_text.specs.declared.PageKind.{PageKind}
+use Rattle.print_text.specs.declared.PageKind.the-variants.{Text, Needs}
+use Rattle.print_text.specs.Lengths.{mostPrinted, pageRoom, printed-few, refusal-short}
+use Rattle.print_text.specs.Print.{pageVerdict, printedOf, heldTables, heldScans, PrintedTo, TablesPrinted, FilesPrinted, map-take, narrowed, narrowed-front}
+use Rattle.print_text.specs.Kept.{sets-none, kept-front, rows-pass, answered-rows, numbers-long, file-front, low16-same, low32-same}
+use Rattle.print_text.specs.Fronts.{FrontOf, front-prints}
 
 -- ---- what main does: each file is read piece after piece into a buffer, the frame's into a cleared one
 
@@ -100,85 +101,6 @@ calls-whole c = record {
   room = c .room;
 }
 
--- ---- lists stored in a buffer
-
-sets-none : (w l : List ℕ) (i : ℕ) → length l ≤ i → sets l i w ≡ l
-sets-none [] l i h = refl
-sets-none (b ∷ w) l i h = rw (set-out l i b h) (sets-none w l (suc i) (omega arith))
-
--- a buffer that is full
-filled : (w b p : List ℕ) → length b ≤ length w → sets (p ++ b) (length p) w ≡ p ++ take (length b) w
-filled [] [] p h = refl
-filled [] (x ∷ b) p h = absurd (omega arith)
-filled (v ∷ w) [] p h = rw (append-nil p) (sets-none (v ∷ w) p (length p) (omega arith))
-filled (v ∷ w) (x ∷ b) p h =
-    let n : length (p ++ (v ∷ [])) ≡ suc (length p) = omega (arith, length-append p (v ∷ [])) in
-    let ih : sets ((p ++ (v ∷ [])) ++ b) (length (p ++ (v ∷ []))) w ≡ (p ++ (v ∷ [])) ++ take (length b) w = filled w b (p ++ (v ∷ [])) (omega arith) in
-    rw (set-append-seam p x b v) (rw (n, append-assoc p (v ∷ []) b, append-assoc p (v ∷ []) (take (length b) w)) at ih)
-
--- the front that was kept: all of it, or as much as there is room for
-pub kept-front : (w b left : List ℕ) (n m : ℕ) → length b ≡ m → left ≡ sets b 0 w → length w ≡ n → take n left ≡ take m w
-kept-front w b left n m hb e hw = elim (decLe n m) [
-  | yes h ↦ (let f : sets b 0 w ≡ w ++ drop (0 + length w) b = sets-eq w b 0 (omega arith) in rw (e, f) (take-at w (drop (0 + length w) b) n hw ∙ sym (take-all m w (omega arith))))
-  | no h ↦ (let f : sets b 0 w ≡ take (length b) w = filled w b [] (omega arith) in
-      let g : length (take (length b) w) ≡ m = length-take (length b) w ∙ omega arith in rw (e, f) (take-all n (take (length b) w) (omega arith) ∙ rw hb))
-]
-
--- ---- the records of a file that passes
-
-rows-pass : (k : Check) → eqb (firstFailing k) (k .rows) ≡ true → (i : ℕ) → i < k .rows → k .passes i ≡ true
-unfolding firstFailing
-rows-pass k e i h = not-false (k .passes i) (least-before (λ j. not (k .passes j)) 0 (k .rows) i (omega arith) (omega (arith, eqb-true (firstFailing k) (k .rows) e)))
-
-answered-rows : (k : Check) (m n : ℕ) → answered k m ≡ A.Rows n → (eqb (firstFailing k) (k .rows) ≡ true) × (n ≡ m)
-unfolding answered
-answered-rows k m n e = elim (which (eqb (firstFailing k) (k .rows))) [
-  | inl f ↦ (f, (let z : A.Rows m ≡ A.Rows n = rw f at e in cc))
-  | inr f ↦ (let z : A.Refused (k .refusal (firstFailing k)) ≡ A.Rows n = rw f at e in let y : _≡_ {A = ℕ} 0 1 = cc in absurd (omega arith))
-]
-
-numbers-long : (t : Column) (w : ℕ) (xs : List (List ℕ)) → ((j : ℕ) → j < length xs → recordPasses t w (getD xs j []) ≡ true)
-    → length (flatMap (λ r. map fieldValue (fields r)) xs) ≡ w * length xs
-unfolding flatMap recordPasses
-numbers-long t w [] h = sym (mul-zero w)
-numbers-long t w (x ∷ xs) h =
-    let e : length (fields x) ≡ w = eqb-true (length (fields x)) w (and-l (eqb (length (fields x)) w) _ (h 0 (omega arith))) in
-    let g = numbers-long t w xs (λ j z. h (suc j) (omega arith)) in
-    length-append (map fieldValue (fields x)) (flatMap (λ r. map fieldValue (fields r)) xs) ∙ omega (arith, length-map (fields x) fieldValue, e, g, mul-suc w (length xs))
-
-module _ (t : Column) (w : ℕ) (bs b left : List ℕ) (a : RecordsAnswer) (n m : ℕ) (read : Read t (fileCheck t w bs) bs b a left) (rows : a ≡ A.Rows n) (long : length b ≡ m) where
-  answer-of : answered (fileCheck t w bs) (length (records bs)) ≡ A.Rows n
-  answer-of = sym (read .answer) ∙ rows
-
-  passing : (j : ℕ) → j < length (records bs) → recordPasses t w (getD (records bs) j []) ≡ true
-  unfolding fileCheck recordAt
-  passing = rows-pass (fileCheck t w bs) (answered-rows (fileCheck t w bs) (length (records bs)) n answer-of .0)
-
-  stored-count : length (map storedNumber (numbers bs)) ≡ w * n
-  unfolding numbers
-  stored-count = length-map (numbers bs) storedNumber ∙ (numbers-long t w (records bs) passing ∙ ap (λ (k : ℕ). w * k) (sym (answered-rows (fileCheck t w bs) (length (records bs)) n answer-of .1)))
-
-  pub file-front : take (w * n) left ≡ take m (map storedNumber (numbers bs))
-  file-front = kept-front (map storedNumber (numbers bs)) b left (w * n) m long (read .stores n rows) stored-count
-
--- ---- numbers of their type are what of them the type holds
-
-low16-same : (l : List ℕ) → all (λ n. leb n 65535) l ≡ true → map low16 l ≡ l
-unfolding all
-low16-same [] e = refl
-low16-same (x ∷ l) e =
-    let h = leb-true x 65535 (and-l (leb x 65535) (all (λ n. leb n 65535) l) e) in
-    let g : x % 65536 ≡ x = omega arith in
-    rw (g, low16-same l (and-r (leb x 65535) (all (λ n. leb n 65535) l) e))
-
-low32-same : (l : List ℕ) → all (λ n. leb n 4294967295) l ≡ true → map low32 l ≡ l
-unfolding all
-low32-same [] e = refl
-low32-same (x ∷ l) e =
-    let h = leb-true x 4294967295 (and-l (leb x 4294967295) (all (λ n. leb n 4294967295) l) e) in
-    let g : x % 4294967296 ≡ x = omega arith in
-    rw (g, low32-same l (and-r (leb x 4294967295) (all (λ n. leb n 4294967295) l) e))
-
 -- ---- the tables that are held are the fronts of the files' tables
 
 states-front : (bs left : List ℕ) (a : RecordsAnswer) → FileStored 514 (freshReader 65535 0 1 0 most64) bs a left → a ≡ A.Rows (rowsOf a) → narrowed 0 514 low16 (2 * rowsOf a) left ≡ take 514 (naturals bs)
@@ -230,76 +152,6 @@ frame-front bs left a c rows =
     let s = low32-same (naturals bs) (z .1) in
     rw e (ap low32 (f .0) ∙ low-at (naturals bs) 0 s, ap low32 (f .1) ∙ low-at (naturals bs) 1 s, ap low32 (f .2) ∙ low-at (naturals bs) 2 s)
 
--- ---- a table with more rows than are kept is SIZE, and so is its front
-
--- each table fits its limit
-pub record PrintedFits (c : Tables) : Type 0 where
-  pub states : length (c .states) ≤ 512
-  pub moves : length (c .moves) ≤ 5632
-  pub presets : length (c .presets) ≤ 32
-  pub timerPairs : length (c .timerPairs) ≤ 4096
-  pub outputPairs : length (c .outputPairs) ≤ 4096
-
-size-fits : (c : Tables) → SizeRule c → PrintedFits c
-unfolding stateCount moveCount timerCount pairCount
-size-fits c r = record {
-  states = omega (arith, r .stateRows, r .fewStates);
-  moves = omega (arith, r .moveRows, r .fewMoves);
-  presets = omega (arith, r .fewTimers);
-  timerPairs = omega (arith, r .timerPairRows, r .fewTimerPairs);
-  outputPairs = omega (arith, r .outputPairRows, r .fewOutputPairs);
-}
-
--- the front that is kept of each table, a row more than its limit
-pub record FrontOf (k c : Tables) : Type 0 where
-  pub scanStep : k .scanStep ≡ c .scanStep
-  pub inputs : k .inputs ≡ c .inputs
-  pub outputs : k .outputs ≡ c .outputs
-  pub states : k .states ≡ take 514 (c .states)
-  pub moves : k .moves ≡ take 5643 (c .moves)
-  pub presets : k .presets ≡ take 33 (c .presets)
-  pub timerPairs : k .timerPairs ≡ take 4098 (c .timerPairs)
-  pub outputPairs : k .outputPairs ≡ take 4098 (c .outputPairs)
-
-short : {A : Type 0} (l m : List A) (n k : ℕ) → l ≡ take n m → k < n → length l ≤ k → length m ≤ k
-short l m n k e h g = omega (arith, ap length e, length-take n m)
-
-fits-back : (k c : Tables) → FrontOf k c → PrintedFits k → PrintedFits c
-fits-back k c f g = record {
-  states = short (k .states) (c .states) 514 512 (f .states) (omega arith) (g .states);
-  moves = short (k .moves) (c .moves) 5643 5632 (f .moves) (omega arith) (g .moves);
-  presets = short (k .presets) (c .presets) 33 32 (f .presets) (omega arith) (g .presets);
-  timerPairs = short (k .timerPairs) (c .timerPairs) 4098 4096 (f .timerPairs) (omega arith) (g .timerPairs);
-  outputPairs = short (k .outputPairs) (c .outputPairs) 4098 4096 (f .outputPairs) (omega arith) (g .outputPairs);
-}
-
-same-tables : (k c : Tables) → FrontOf k c → PrintedFits c → k ≡ c
-same-tables k c f g = λ i. record {
-  scanStep = f .scanStep i;
-  inputs = f .inputs i;
-  outputs = f .outputs i;
-  states = (f .states ∙ take-all 514 (c .states) (omega (arith, g .states))) i;
-  moves = (f .moves ∙ take-all 5643 (c .moves) (omega (arith, g .moves))) i;
-  presets = (f .presets ∙ take-all 33 (c .presets) (omega (arith, g .presets))) i;
-  timerPairs = (f .timerPairs ∙ take-all 4098 (c .timerPairs) (omega (arith, g .timerPairs))) i;
-  outputPairs = (f .outputPairs ∙ take-all 4098 (c .outputPairs) (omega (arith, g .outputPairs))) i;
-}
-
-size-refused : (c : Tables) → sizePasses c ≡ false → pageVerdict c ≡ Refused R.Size
-unfolding pageVerdict checks verdictOf firstFailing least
-size-refused c e = rw e
-
--- the tables that are held have the files' verdict, and print the same
-module _ (k c : Tables) (f : FrontOf k c) (xs : List ℕ) where
-  by-size : (b d : Bool) → sizePasses k ≡ b → sizePasses c ≡ d → (pageVerdict k ≡ pageVerdict c) × (printedOf k xs (pageVerdict k) ≡ printedOf c xs (pageVerdict c))
-  unfolding printedOf
-  by-size true d p q = (let e : k ≡ c = same-tables k c f (fits-back k c f (size-fits k (size-tells k .0 p))) in rw e (refl, refl))
-  by-size false true p q = (let e : k ≡ c = same-tables k c f (size-fits c (size-tells c .0 q)) in rw e (refl, refl))
-  by-size false false p q = (size-refused k p ∙ sym (size-refused c q), rw (size-refused k p, size-refused c q))
-
-  pub front-prints : (pageVerdict k ≡ pageVerdict c) × (printedOf k xs (pageVerdict k) ≡ printedOf c xs (pageVerdict c))
-  front-prints = by-size (sizePasses k) (sizePasses c) refl refl
-
 -- ---- FIELD, file by file
 
 later-check : (k : Check) (n : ℕ) (ks : List Check) (a : RecordsAnswer) (v : Verdict) → a ≡ answered k n → v ≡ verdictOf ks → later a v ≡ verdictOf (k ∷ ks)
@@ -324,10 +176,24 @@ scans-all bs left a s rows =
     let e : take (length (records bs)) left ≡ take 4096 (map storedNumber (numbers bs)) = kept-front (map storedNumber (numbers bs)) (s .buffer) left (length (records bs)) 4096 (s .long) (r .stores (rowsOf a) rows) long in
     rw n (e ∙ (take-all 4096 (map storedNumber (numbers bs)) (omega (arith, long)) ∙ z .0))
 
--- a refusal is printed whatever the tables
-refusal-same : (c k : Tables) (xs ys : List ℕ) (q : Refusal) → printedOf c xs (Refused q) ≡ printedOf k ys (Refused q)
-unfolding printedOf
-refusal-same c k xs ys q = refl
+-- FIELD has number 16
+field-number : (k : Check) (ks : List Check) → k .refusal ≡ R.Field → ((q : Refusal) → verdictOf ks ≡ Refused q → numberOf q ≡ 16) → (q : Refusal) → verdictOf (k ∷ ks) ≡ Refused q → numberOf q ≡ 16
+unfolding verdictOf
+field-number k ks h rest q e = elim (which (eqb (firstFailing k) (k .rows))) [
+  | inl g ↦ rest q (rw (verdictOf, g) at e)
+  | inr g ↦ (let z : Refused (k .refusal (firstFailing k)) ≡ Refused q = rw (verdictOf, g) at e in
+      let y : k .refusal (firstFailing k) ≡ q = cc in rw (← y, h) refl)
+]
+
+no-more : (q : Refusal) → verdictOf [] ≡ Refused q → numberOf q ≡ 16
+unfolding verdictOf
+no-more q e = (let z : _≡_ {A = ℕ} 0 1 = cc in absurd (omega arith))
+
+-- and is one line, whatever the tables
+field-line : (page : PageKind) (c : Tables) (xs : List ℕ) (q : Refusal) → numberOf q ≡ 16 → printedOf page c xs (Refused q) ≡ refusalLine q
+unfolding printedOf needsPage needsKnown
+field-line Text c xs q h = refl
+field-line Needs c xs q h = rw h
 
 front-written : (l w m : List ℕ) (r : ℕ) → BytesPut l 0 w m r → length w ≤ length l → take r m ≡ w
 front-written l w m r p h =
@@ -335,6 +201,15 @@ front-written l w m r p h =
     rw (p .list, e) (take-at w (drop (0 + length w) l) r (omega (arith, p .next, p .fits)))
 
 -- ---- the theorem
+
+-- the verdict that a page is printed for, and what is printed, as they are defined from the files' bytes
+abbrev pub filesVerdict : PageKind → Files → Verdict
+filesVerdict Text f = printedVerdict f
+filesVerdict Needs f = needsVerdict f
+
+abbrev pub filesPrinted : PageKind → Files → List ℕ
+filesPrinted Text f = printed f
+filesPrinted Needs f = needsPrinted f
 
 module _ (f : Files) (a : Answers) (frame states moves presets timerPairs outputPairs scans : List ℕ) (load : Loaded f a frame states moves presets timerPairs outputPairs scans) where
   abbrev held : Tables
@@ -394,57 +269,94 @@ module _ (f : Files) (a : Answers) (frame states moves presets timerPairs output
         scans-all (f .scans) scans (a .scans) (load .ofScans) (r7 .0),
       )
 
-  printed-as : (v : Verdict) → printedAs f v ≡ printedOf (tables f) (naturals (f .scans)) v
+  printed-as : (v : Verdict) → printedAs f v ≡ printedOf Text (tables f) (naturals (f .scans)) v
   unfolding printedAs printedOf
   printed-as Accepted = refl
   printed-as (Refused r) = refl
 
-  printed-is : (v : Verdict) → printedVerdict f ≡ v → printed f ≡ printedOf (tables f) (naturals (f .scans)) v
-  unfolding printed
-  printed-is v e = ap (printedAs f) e ∙ printed-as v
+  printed-is : (page : PageKind) (v : Verdict) → filesVerdict page f ≡ v → filesPrinted page f ≡ printedOf page (tables f) (naturals (f .scans)) v
+  unfolding printed needsPrinted printedOf
+  printed-is Text v e = ap (printedAs f) e ∙ printed-as v
+  printed-is Needs v e = ap (needsPage (tables f)) e
 
   -- FIELD, or what comes after it
-  field-refuses : (q : Refusal) → fieldVerdict a ≡ Refused q → printedVerdict f ≡ Refused q
-  unfolding printedVerdict
-  field-refuses q e = stop (fieldChecks f) _ (ap isRefused (sym field-is ∙ e)) ∙ (sym field-is ∙ e)
+  field-refuses : (page : PageKind) (q : Refusal) → fieldVerdict a ≡ Refused q → filesVerdict page f ≡ Refused q
+  unfolding printedVerdict needsVerdict
+  field-refuses Text q e = stop (fieldChecks f) _ (ap isRefused (sym field-is ∙ e)) ∙ (sym field-is ∙ e)
+  field-refuses Needs q e = stop (fieldChecks f) _ (ap isRefused (sym field-is ∙ e)) ∙ (sym field-is ∙ e)
 
-  field-passes : fieldVerdict a ≡ Accepted → printedVerdict f ≡ pageVerdict (tables f)
-  unfolding printedVerdict pageVerdict
-  field-passes e = go (fieldChecks f) _ (ap isRefused (sym field-is ∙ e))
+  field-passes : (page : PageKind) → fieldVerdict a ≡ Accepted → filesVerdict page f ≡ pageVerdict page (tables f)
+  unfolding printedVerdict needsVerdict pageVerdict verdict
+  field-passes Text e = go (fieldChecks f) _ (ap isRefused (sym field-is ∙ e))
+  field-passes Needs e = go (fieldChecks f) _ (ap isRefused (sym field-is ∙ e))
 
-  fits-by : (w : Verdict) → fieldVerdict a ≡ w → length (printed f) ≤ mostPrinted
-  fits-by (Refused q) e = rw (printed-is (Refused q) (field-refuses q e)) (refusal-short (tables f) (naturals (f .scans)) q)
-  fits-by Accepted e = rw (printed-is (pageVerdict (tables f)) (field-passes e))
-      (printed-few (tables f) (naturals (f .scans)) (omega (arith, ap length (front-of e .1), length-take (min (rowsOf (a .scans)) 4096) scans)))
+  is-field : (q : Refusal) → fieldVerdict a ≡ Refused q → numberOf q ≡ 16
+  unfolding fieldChecks frameCheck fileCheck scansFileCheck
+  is-field q e = field-number _ k2 refl (field-number _ k3 refl (field-number _ k4 refl (field-number _ k5 refl (field-number _ k6 refl (field-number _ k7 refl (field-number _ [] refl no-more)))))) q (sym field-is ∙ e)
+
+  field-printed : (page : PageKind) (q : Refusal) → fieldVerdict a ≡ Refused q → filesPrinted page f ≡ refusalLine q
+  field-printed page q e = printed-is page (Refused q) (field-refuses page q e) ∙ field-line page (tables f) (naturals (f .scans)) q (is-field q e)
+
+  fits-by : (page : PageKind) (w : Verdict) → fieldVerdict a ≡ w → length (filesPrinted page f) ≤ pageRoom page
+  fits-by page (Refused q) e = rw (field-printed page q e) (refusal-short page q)
+  fits-by page Accepted e = rw (printed-is page (pageVerdict page (tables f)) (field-passes page e))
+      (printed-few page (tables f) (naturals (f .scans)) (omega (arith, ap length (front-of e .1), length-take (min (rowsOf (a .scans)) 4096) scans)))
 
   -- whatever the files hold, there is an end to what is printed
+  pub page-fits : (page : PageKind) → length (filesPrinted page f) ≤ pageRoom page
+  page-fits page = fits-by page (fieldVerdict a) refl
+
   pub printed-fits : length (printed f) ≤ mostPrinted
-  printed-fits = fits-by (fieldVerdict a) refl
+  printed-fits = page-fits Text
 
-  module _ (l m : List ℕ) (p : Printed) (call : FilesPrinted a frame states moves presets timerPairs outputPairs scans l p m) where
-    abbrev Prints : Type 0
-    Prints = (p .verdict ≡ printedVerdict f) × BytesPut l 0 (printed f) m (p .length)
+  pub needs-fit : length (needsPrinted f) ≤ mostNeeds
+  needs-fit = page-fits Needs
 
-    by-field : (w : Verdict) → fieldVerdict a ≡ w → Prints
+  module _ (page : PageKind) (l m : List ℕ) (p : Printed) (call : FilesPrinted page a frame states moves presets timerPairs outputPairs scans l p m) where
+    abbrev PagePrints : Type 0
+    PagePrints = (p .verdict ≡ filesVerdict page f) × BytesPut l 0 (filesPrinted page f) m (p .length)
+
+    by-field : (w : Verdict) → fieldVerdict a ≡ w → PagePrints
     by-field (Refused q) e =
-        let v = field-refuses q e in
-        let c : PrintedTo (Refused q) held (heldScans a scans) l p m = rw e at call in
-        (c .why ∙ sym v, rw (printed-is (Refused q) v, refusal-same (tables f) held (naturals (f .scans)) (heldScans a scans) q) (c .written))
+        let c : PrintedTo (Refused q) (refusalLine q) l p m = rw e at call in
+        (c .why ∙ sym (field-refuses page q e), rw (field-printed page q e) (c .written))
     by-field Accepted e =
-        let v = field-passes e in
+        let v = field-passes page e in
         let t = front-of e in
-        let s = front-prints held (tables f) (t .0) (naturals (f .scans)) in
-        let c : PrintedTo (pageVerdict held) held (heldScans a scans) l p m = rw e at call in
-        let d : BytesPut l 0 (printedOf held (naturals (f .scans)) (pageVerdict held)) m (p .length) = rw (t .1) at (c .written) in
-        (c .why ∙ (s .0 ∙ sym v), rw (printed-is (pageVerdict (tables f)) v, ← s .1) d)
+        let s = front-prints page held (tables f) (t .0) (naturals (f .scans)) in
+        let c : TablesPrinted page held (heldScans a scans) l p m = rw e at call in
+        let d : BytesPut l 0 (printedOf page held (naturals (f .scans)) (pageVerdict page held)) m (p .length) = rw (t .1) at (c .written) in
+        (c .why ∙ (s .0 ∙ sym v), rw (printed-is page (pageVerdict page (tables f)) v, ← s .1) d)
 
     -- what the program prints is what is defined, and its verdict too, however the files were cut into pieces
-    pub prints : Prints
-    prints = by-field (fieldVerdict a) refl
+    pub page-prints : PagePrints
+    page-prints = by-field (fieldVerdict a) refl
 
     -- main's buffer holds it, and the bytes that it writes are those
+    pub length-page : pageRoom page ≤ length l → p .length ≤ length l
+    length-page h = omega (arith, page-prints .1 .next, page-fits page)
+
+    pub bytes-page : pageRoom page ≤ length l → take (p .length) m ≡ filesPrinted page f
+    bytes-page h = front-written l (filesPrinted page f) m (p .length) (page-prints .1) (omega (arith, page-fits page))
+
+  -- the same of the text and its run
+  module _ (l m : List ℕ) (p : Printed) (call : FilesPrinted Text a frame states moves presets timerPairs outputPairs scans l p m) where
+    pub prints : (p .verdict ≡ printedVerdict f) × BytesPut l 0 (printed f) m (p .length)
+    prints = page-prints Text l m p call
+
     pub length-printed : mostPrinted ≤ length l → p .length ≤ length l
-    length-printed h = omega (arith, prints .1 .next, printed-fits)
+    length-printed h = length-page Text l m p call h
 
     pub bytes-printed : mostPrinted ≤ length l → take (p .length) m ≡ printed f
-    bytes-printed h = front-written l (printed f) m (p .length) (prints .1) (omega (arith, printed-fits))
+    bytes-printed h = bytes-page Text l m p call h
+
+  -- and of what the moves need
+  module _ (l m : List ℕ) (p : Printed) (call : FilesPrinted Needs a frame states moves presets timerPairs outputPairs scans l p m) where
+    pub prints-needs : (p .verdict ≡ needsVerdict f) × BytesPut l 0 (needsPrinted f) m (p .length)
+    prints-needs = page-prints Needs l m p call
+
+    pub length-needs : mostNeeds ≤ length l → p .length ≤ length l
+    length-needs h = length-page Needs l m p call h
+
+    pub bytes-needs : mostNeeds ≤ length l → take (p .length) m ≡ needsPrinted f
+    bytes-needs h = bytes-page Needs l m p call h

@@ -27,19 +27,20 @@ use Rattle.print_lines.specs.Results.{scanLinesFrom, lines-are}
 use Rattle.roundtrip_call.specs.declared.WrittenRun.{WrittenRun}
 use Rattle.roundtrip_call.specs.declared.WrittenRun.the-variants as O
 use Rattle.roundtrip_call.specs.WrittenRan.{laterChecks, writtenVerdict, outcome, WrittenRan}
-use Rattle.print_text.specs.declared.Printed.{Printed}
-use Rattle.print_text.specs.Print.{pageVerdict, printedOf, PrintedTo, TextPrinted}
+use Rattle.print_lines.specs.declared.Printed.{Printed}
+use Rattle.print_text.specs.declared.PageKind.the-variants.{Text}
+use Rattle.print_text.specs.Print.{pageVerdict, printedOf, TextPrinted, TablesPrinted}
 
 -- the run has the text for an answer, or the refusal that comes after FIELD
 pub record PrintedRun (c : Tables) (xs : List ℕ) (n : ℕ) (l ls os : List ℕ) : Type 0 where
-  pub passes : pageVerdict c ≡ Accepted
+  pub passes : pageVerdict Text c ≡ Accepted
   pub long : n ≡ length (chartText c)
   pub text : l ≡ chartText c ++ drop (length (chartText c)) l
   pub leaves : ls ≡ map (λ (e : Seen). e .leaf) (trace c (startState c) xs)
   pub outputs : os ≡ map (λ (e : Seen). e .outputs) (trace c (startState c) xs)
 
 -- tables that nothing refuses after FIELD are accepted
-pub page-tables : (c : Tables) → pageVerdict c ≡ Accepted → verdict c ≡ Accepted
+pub page-tables : (c : Tables) → pageVerdict Text c ≡ Accepted → verdict c ≡ Accepted
 unfolding pageVerdict verdict
 page-tables c e = by (verdictOf (checks c)) refl
   where
@@ -61,7 +62,7 @@ module _ (c : Tables) (xs l ws ls os : List ℕ) (full : length l ≡ 65536) (wi
       let e : min (length l) (length ws) ≡ mostText = omega arith in
       go scansChecks (roomCheck c (min (length l) (length ws)) ∷ []) scans-pass ∙ ap (λ n. verdictOf (roomCheck c n ∷ [])) e
 
-  same-verdict : writtenVerdict c xs l ws ls os ≡ pageVerdict c
+  same-verdict : writtenVerdict c xs l ws ls os ≡ pageVerdict Text c
   unfolding pageVerdict
   same-verdict = elim (which (isRefused (verdictOf (checks c)))) [
     | inl e ↦ stop (checks c) (laterChecks c xs l ws ls os) e ∙ sym (stop (checks c) (roomCheck c mostText ∷ []) e)
@@ -78,7 +79,7 @@ module _ (c : Tables) (xs l ws ls os : List ℕ) (full : length l ≡ 65536) (wi
   ran-by Accepted n k e = (refl, cc)
   ran-by (Refused r) n k e = (let z : _≡_ {A = ℕ} 0 1 = cc in absurd (omega arith))
 
-  pub ran-refused : (r : WrittenRun) (l′ ws′ ls′ os′ : List ℕ) (q : Refusal) → WrittenRan c xs l ws ls os r l′ ws′ ls′ os′ → r ≡ O.Refused q → pageVerdict c ≡ Refused q
+  pub ran-refused : (r : WrittenRun) (l′ ws′ ls′ os′ : List ℕ) (q : Refusal) → WrittenRan c xs l ws ls os r l′ ws′ ls′ os′ → r ≡ O.Refused q → pageVerdict Text c ≡ Refused q
   ran-refused r l′ ws′ ls′ os′ q w e = sym same-verdict ∙ refused-by (writtenVerdict c xs l ws ls os) q (sym (w .answers) ∙ e)
 
   overlaid-text : (l′ : List ℕ) → l′ ≡ overlaid (chartText c) l → l′ ≡ chartText c ++ drop (length (chartText c)) l′
@@ -113,10 +114,10 @@ module _ (c : Tables) (xs : List ℕ) (n : ℕ) (l ls os : List ℕ) (ran : Prin
   pub same-lengths : length os ≡ length ls
   same-lengths = ap length (ran .outputs) ∙ length-map (trace c (startState c) xs) (λ (e : Seen). e .outputs) ∙ sym (ap length (ran .leaves) ∙ length-map (trace c (startState c) xs) (λ (e : Seen). e .leaf))
 
-  bytes-are : take n l ++ scanLinesFrom 1 ls os ≡ printedOf c xs Accepted
+  bytes-are : take n l ++ scanLinesFrom 1 ls os ≡ printedOf Text c xs Accepted
   unfolding printedOf
   bytes-are = rw (ran .leaves, ran .outputs, lines-are 1 (trace c (startState c) xs), ran .long)
       (ap (λ (t : List ℕ). t ++ scanLines 1 (trace c (startState c) xs)) (ap (take (length (chartText c))) (ran .text) ∙ take-append-seam (chartText c) (drop (length (chartText c)) l)))
 
-  pub text-printed : (o m : List ℕ) (p : Printed) → TextPrinted n l ls os o p m → PrintedTo (pageVerdict c) c xs o p m
+  pub text-printed : (o m : List ℕ) (p : Printed) → TextPrinted n l ls os o p m → TablesPrinted Text c xs o p m
   text-printed o m p t = rw (ran .passes) (record { why = t .why; written = rw bytes-are at (t .written) })

@@ -3,29 +3,30 @@ use csv_tables::Answers;
 use csv_tables::Counts;
 use meaning::Refusal;
 use meaning::Verdict;
+use print_lines::Printed;
 use roundtrip_call::WrittenRun;
 use tables::Chart;
 ghost use mathlib.Core.Path.{_≡_};
 ghost use Prim.Native.Nat.{ℕ, _≤_};
 ghost use lib.ListN.{length};
 ghost use mathlib.Core.List.{List};
-ghost use Rattle.meaning.specs.Tables.{Tables};
 ghost use Rattle.meaning.specs.declared.Verdict.the-variants.{Refused};
+ghost use Rattle.format.specs.Printed.{refusalLine};
 ghost use Rattle.tables.specs.Given.{tablesOf};
 ghost use Rattle.csv_tables.specs.declared.Answers as X;
 ghost use Rattle.csv_tables.specs.Told.{Counted, chartFrom};
-ghost use Rattle.print_text.specs.Print.{pageVerdict, PrintedTo, TextPrinted, RowsPrinted, FilesPrinted};
+ghost use Rattle.print_text.specs.declared.PageKind.the-variants as P;
+ghost use Rattle.print_text.specs.Print.{PrintedTo, TextPrinted, TablesPrinted, RowsPrinted, FilesPrinted};
 
-// How many bytes are printed, and why nothing else is.
-pub struct Printed {
-    pub length: usize,
-    pub verdict: Verdict,
+// What the program is asked to print: the text and its run, or the table of what the moves need.
+pub enum PageKind {
+    Text,
+    Needs,
 }
 
 // "On refusal only "REFUSED,number,place"."
 fn print_refusal(r: Refusal, out: &mut [u8]) -> Printed
-    ensures { λ p. ⌜ ((c : Tables) (xs : List ℕ)
-        → PrintedTo (Refused r) c xs (now (out .entry)) p (now (out .exit))) ⌝ }
+    ensures { λ p. ⌜ PrintedTo (Refused r) (refusalLine r) (now (out .entry)) p (now (out .exit)) ⌝ }
 {
     let length = print_lines::put_refusal(out, 0, r);
     Printed {
@@ -70,9 +71,7 @@ fn print_run(
     ensures { λ p. ⌜ (length (now (text .entry)) ≡ 65536 → length (now (words .entry)) ≡ 65536
         → length (now (leaves .entry)) ≡ length (now (scans .entry))
         → length (now (outputs .entry)) ≡ length (now (scans .entry))
-        → PrintedTo (pageVerdict (tablesOf chart (now (states .entry)) (now (moves .entry)) (now (presets .entry))
-        (now («timer_pairs» .entry)) (now («output_pairs» .entry))))
-        (tablesOf chart (now (states .entry)) (now (moves .entry)) (now (presets .entry))
+        → TablesPrinted P.Text (tablesOf chart (now (states .entry)) (now (moves .entry)) (now (presets .entry))
         (now («timer_pairs» .entry)) (now («output_pairs» .entry))) (now (scans .entry)) (now (out .entry)) p
         (now (out .exit))) ⌝ }
 {
@@ -96,7 +95,7 @@ fn print_run(
 }
 
 // "A text above 65,536 bytes is ROOM here."; "scans.csv has at most 4,096".
-fn print_tables(
+fn print_scans(
     chart: Chart,
     states: &[u16],
     moves: &[i16],
@@ -107,9 +106,7 @@ fn print_tables(
     out: &mut [u8],
 ) -> Printed
     ensures { λ p. ⌜ (length (now (scans .entry)) ≤ 4096
-        → PrintedTo (pageVerdict (tablesOf chart (now (states .entry)) (now (moves .entry)) (now (presets .entry))
-        (now («timer_pairs» .entry)) (now («output_pairs» .entry))))
-        (tablesOf chart (now (states .entry)) (now (moves .entry)) (now (presets .entry))
+        → TablesPrinted P.Text (tablesOf chart (now (states .entry)) (now (moves .entry)) (now (presets .entry))
         (now («timer_pairs» .entry)) (now («output_pairs» .entry))) (now (scans .entry)) (now (out .entry)) p
         (now (out .exit))) ⌝ }
 {
@@ -140,8 +137,49 @@ fn print_tables(
     )
 }
 
+// Either page of the tables; the scans are for the text's run.
+fn print_tables(
+    page: PageKind,
+    chart: Chart,
+    states: &[u16],
+    moves: &[i16],
+    presets: &[u32],
+    timer_pairs: &[u16],
+    output_pairs: &[u16],
+    scans: &[u64],
+    out: &mut [u8],
+) -> Printed
+    ensures { λ p. ⌜ (length (now (scans .entry)) ≤ 4096
+        → TablesPrinted page (tablesOf chart (now (states .entry)) (now (moves .entry)) (now (presets .entry))
+        (now («timer_pairs» .entry)) (now («output_pairs» .entry))) (now (scans .entry)) (now (out .entry)) p
+        (now (out .exit))) ⌝ }
+{
+    match page {
+        PageKind::Text => print_scans(
+            chart,
+            states,
+            moves,
+            presets,
+            timer_pairs,
+            output_pairs,
+            scans,
+            out,
+        ),
+        PageKind::Needs => print_needs::print_needs(
+            chart,
+            states,
+            moves,
+            presets,
+            timer_pairs,
+            output_pairs,
+            out,
+        ),
+    }
+}
+
 // The tables in their types.
 fn print_rows(
+    page: PageKind,
     chart: Chart,
     n: Counts,
     states: &[u64; 514],
@@ -153,7 +191,7 @@ fn print_rows(
     out: &mut [u8],
 ) -> Printed
     ensures { λ p. ⌜ ((a : X.Answers) → Counted a n → (frame : List ℕ) → chart ≡ chartFrom frame
-        → RowsPrinted a frame (now (states .entry)) (now (moves .entry)) (now (presets .entry))
+        → RowsPrinted page a frame (now (states .entry)) (now (moves .entry)) (now (presets .entry))
         (now («timer_pairs» .entry)) (now («output_pairs» .entry)) (now (scans .entry)) (now (out .entry)) p
         (now (out .exit))) ⌝ }
 {
@@ -174,6 +212,7 @@ fn print_rows(
     let n_o = csv_columns::ones(n.output_pairs, 4098);
     let n_x = csv_columns::ones(n.scans, scans.len());
     print_tables(
+        page,
         chart,
         &s[..n_s],
         &m[..n_m],
@@ -185,8 +224,9 @@ fn print_rows(
     )
 }
 
-// FIELD, then the tables' refusals and ROOM, or the text and a line a scan.
+// FIELD, then the page: the tables' refusals and ROOM, or the text and a line a scan; or what the moves need.
 pub fn print(
+    page: PageKind,
     answers: Answers,
     frame: &[u64; 3],
     states: &[u64; 514],
@@ -197,7 +237,7 @@ pub fn print(
     scans: &[u64],
     out: &mut [u8],
 ) -> Printed
-    ensures { λ p. ⌜ FilesPrinted answers (now (frame .entry)) (now (states .entry)) (now (moves .entry))
+    ensures { λ p. ⌜ FilesPrinted page answers (now (frame .entry)) (now (states .entry)) (now (moves .entry))
         (now (presets .entry)) (now («timer_pairs» .entry)) (now («output_pairs» .entry)) (now (scans .entry))
         (now (out .entry)) p (now (out .exit)) ⌝ }
 {
@@ -205,6 +245,7 @@ pub fn print(
     match v {
         Verdict::Refused(r) => print_refusal(r, out),
         Verdict::Accepted => print_rows(
+            page,
             csv_tables::chart_of(frame),
             csv_tables::count_rows(answers),
             states,

@@ -1,5 +1,6 @@
-// The program: reads the seven files of a folder, the one that its argument names or else the one that it is started
-// in, and prints what the library `printing` makes of them. Every byte on standard output comes from there.
+// The program: reads the seven files of a folder, the one that its last argument names or else the one that it is
+// started in, and prints what the crate `print_text` makes of them: the text and its run, or with --needs what the
+// moves need. Every byte on standard output comes from there.
 mod message;
 
 use csv_cursor::Reader;
@@ -7,6 +8,7 @@ use csv_records::RecordsAnswer;
 use csv_tables::Answers;
 use libc::STDOUT_FILENO;
 use meaning::Verdict;
+use print_text::PageKind;
 
 // What a read of a file came to.
 enum Turn {
@@ -132,6 +134,7 @@ fn write_front(out: &[u8], n: usize) -> bool {
 
 // What is printed, and why nothing else is.
 fn show(
+    page: PageKind,
     answers: Answers,
     frame: &[u64; 3],
     states: &[u64; 514],
@@ -141,9 +144,10 @@ fn show(
     output_pairs: &[u64; 4098],
     scans: &[u64; 4096],
 ) {
-    // More than the most that is printed (`mostPrinted` in printing/specs/Lengths.antt).
+    // More than the most that is printed on either page (`pageRoom` in print_text/specs/Lengths.antt).
     let mut out = [0u8; 327680];
     let p = print_text::print(
+        page,
         answers,
         frame,
         states,
@@ -241,7 +245,7 @@ fn load_rest(
 }
 
 // A row more is kept of each table than its limit, so that the check itself says SIZE.
-fn run(folder: &[u8]) {
+fn run(page: PageKind, folder: &[u8]) {
     let mut frame = [0u64; 3];
     let mut states = [0u64; 514];
     let mut moves = [0u64; 5643];
@@ -261,6 +265,7 @@ fn run(folder: &[u8]) {
         return;
     };
     show(
+        page,
         answers,
         &frame,
         &states,
@@ -273,31 +278,67 @@ fn run(folder: &[u8]) {
 }
 
 // A folder that is not there is no folder of missing files.
-fn start(folder: &[u8]) {
+fn start(page: PageKind, folder: &[u8]) {
     let fd = os::open_read(folder);
     if fd < 0 {
         os::fail(folder);
         return;
     }
     libc::close(fd);
-    run(folder);
+    run(page, folder);
 }
 
-fn main() {
-    let count = os::arg_count();
-    if 2 < count {
-        message::say(b"usage: splicetuck [FOLDER]\n");
+fn usage() {
+    message::say(b"usage: splicetuck [--needs] [FOLDER]\n");
+}
+
+// A folder whose name begins with - can be given as ./-name.
+fn is_option(word: &[u8]) -> bool {
+    if word.len() == 0 {
+        return false;
+    }
+    word[0] == b'-'
+}
+
+fn start_named(page: PageKind, folder: &[u8]) {
+    if is_option(folder) {
+        usage();
         return;
     }
-    if count < 2 {
-        start(b".");
+    start(page, folder);
+}
+
+// The folder is argument i, the last of count, or the one that the program is started in.
+fn start_from(page: PageKind, i: usize, count: usize) {
+    if count <= i {
+        start(page, b".");
+        return;
+    }
+    if i < count - 1 {
+        usage();
         return;
     }
     let mut folder = io::buffer();
-    let n = os::arg(1, &mut folder);
+    let n = os::arg(i, &mut folder);
     if os::errno() != 0 {
         os::fail(b"splicetuck: the folder's name");
         return;
     }
-    start(&folder[..n]);
+    start_named(page, &folder[..n]);
+}
+
+// Whether argument 1 is the option; of a missing or too long one nothing is kept.
+fn needs_asked() -> bool {
+    let mut word = io::buffer();
+    let n = os::arg(1, &mut word);
+    read_decimals::same(&word[..n], b"--needs")
+}
+
+fn main() {
+    let count = os::arg_count();
+    if needs_asked() {
+        start_from(PageKind::Needs, 2, count);
+        return;
+    }
+    start_from(PageKind::Text, 1, count);
 }

@@ -11,8 +11,8 @@ use Rattle.chart_scan.proofs.run.Tie as tie
 paired-words-requires : tie.Need-paired-words-requires
 paired-words-requires c κs = search needs
 
-make-asks-requires : tie.Need-make-asks-requires
-make-asks-requires c κs = search needs
+make-needs-requires : tie.Need-make-needs-requires
+make-needs-requires c κs = search needs
 
 slice-aggregate-make-links : tie.Need-slice-aggregate-make-links
 slice-aggregate-make-links c = search needs
@@ -54,13 +54,13 @@ returns : tie.Need-returns
 returns c c' g R W E lm lt val p q =
     let a = c .before .before .before .before .before .before .before .before .before .before .before .before .before .before .before .before .before .before .before .before .before .before .before .before .before .before .before .before .before .before .before .before .before .before .before .before .before .before .before .before .args in
     let shows = c .before .before .before .before .before .before .before .before .before .before .before .before .before .before .before .before .before .before .before .before .before .before .before .before .before .before .before .paired-words .last .1 .1 .0 in
-    let asks = c .before .before .before .before .before .before .before .before .before .before .before .before .before .before .before .before .before .before .before .before .before .before .before .make-asks .last .1 .0 in
+    let ns = c .before .before .before .before .before .before .before .before .before .before .before .before .before .before .before .before .before .before .before .before .before .before .before .make-needs .last .1 .0 in
     let links = c .before .before .before .before .before .before .before .before .before .before .before .before .before .before .before .before .before .before .before .make-links .last .1 .0 in
-    let M : Made c' (a .runs .now) links asks (c .before .before .before .before .before .before .before .before .before .before .before .before .before .before .before .before .before .longest-of .result) = record {
+    let M : Made c' (a .runs .now) links ns (c .before .before .before .before .before .before .before .before .before .before .before .before .before .before .before .before .before .longest-of .result) = record {
       running = W;
       linked = c .before .before .before .before .before .before .before .before .before .before .before .before .before .before .before .before .before .before .before .make-links .ensures c' (g .lent .moves) R (omega arith) (getD-equal 0 768);
-      asked = c .before .before .before .before .before .before .before .before .before .before .before .before .before .before .before .before .before .before .before .before .before .before .before .make-asks .ensures c' (g .lent .moves) R (E .asksRoom);
-      room = rw (c .before .before .before .before .before .before .before .before .before .before .before .before .before .before .before .before .before .before .before .before .before .before .before .make-asks .kept .1 .0) (E .asksRoom);
+      holds = c .before .before .before .before .before .before .before .before .before .before .before .before .before .before .before .before .before .before .before .before .before .before .before .make-needs .ensures c' (g .lent .moves) R (E .needsRoom);
+      room = rw (c .before .before .before .before .before .before .before .before .before .before .before .before .before .before .before .before .before .before .before .before .before .before .before .make-needs .kept .1 .0) (E .needsRoom);
       longest = longest-made c' R (a .presets .now) (c .before .before .before .before .before .before .before .before .before .before .before .before .before .before .before .before .before .longest-of .result) (a .chart .step) (g .lent .presets) (g .step) (c .before .before .before .before .before .before .before .before .before .before .before .before .before .before .before .before .before .longest-of .ensures);
     } in
     c .before .before .before .before .before .before .before .before .run-made .ensures c' (g .step) (g .lent .states) (g .lent .moves) (g .lent .presets) R M
@@ -71,7 +71,7 @@ run-spec =
     tie.close
     (tie.spec
     paired-words-requires
-    make-asks-requires
+    make-needs-requires
     slice-aggregate-make-links
     make-links-requires
     longest-of-requires

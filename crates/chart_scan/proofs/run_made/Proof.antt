@@ -15,14 +15,14 @@ use Rattle.chart_scan.proofs.run_made.Statement.{statement}
 use Rattle.chart_scan.proofs.run_made.Tie as tie
 
 abbrev Inv-loop : tie.InvT-loop
-Inv-loop chart states moves presets runs shows links asks most memory₀ timers₀ inputs leaves₀ outputs₀ l₀ i₀ memory timers leaves outputs l i =
+Inv-loop chart states moves presets runs shows links needs most memory₀ timers₀ inputs leaves₀ outputs₀ l₀ i₀ memory timers leaves outputs l i =
     (i ≤ length inputs) × (length leaves ≡ length leaves₀) × (length outputs ≡ length outputs₀) × (length memory ≡ length memory₀) × (length timers ≡ length timers₀)
-    × ((c : Tables) → c .scanStep ≡ chart .step → c .states ≡ states → c .moves ≡ moves → c .presets ≡ presets → Rules c → Made c runs links asks most → PairedWords c (c .outputPairs) shows
+    × ((c : Tables) → c .scanStep ≡ chart .step → c .states ≡ states → c .moves ≡ moves → c .presets ≡ presets → Rules c → Made c runs links needs most → PairedWords c (c .outputPairs) shows
     → stateCount c ≤ length memory₀ → length timers₀ ≡ 32 → Valid c (held c memory₀ timers₀) → length leaves₀ ≡ length inputs → length outputs₀ ≡ length inputs
     → StateScanned c (held c memory₀ timers₀) (take i inputs) (held c memory timers) (take i leaves) (take i outputs) × (l ≡ activeLeaf c (take (stateCount c) memory)))
 
 abbrev μ-loop : tie.MeasureT-loop
-μ-loop chart states moves presets runs shows links asks most memory₀ timers₀ inputs leaves₀ outputs₀ l₀ i₀ memory timers leaves outputs l i = length inputs - i
+μ-loop chart states moves presets runs shows links needs most memory₀ timers₀ inputs leaves₀ outputs₀ l₀ i₀ memory timers leaves outputs l i = length inputs - i
 
 active-leaf-requires : tie.Need-active-leaf-requires Inv-loop μ-loop
 active-leaf-requires c κs = tt

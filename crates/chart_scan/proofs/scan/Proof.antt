@@ -59,7 +59,7 @@ returns c c' d e f g R M lm lt val le =
     let count : timerCount c' ≡ length (a .presets .now) = unfold timerCount in (ap length g) in
     let fewer : length (a .presets .now) ≤ 32 = omega (arith, count, R .size .fewTimers) in
     let bits : (n : ℕ) → n < 64 → inputOn ran (suc n) ≡ paired c' (c' .timerPairs) (suc n) (a .l) = λ n z. rw (c .before .before .before .before .before .before .before .before .before .before .before .before .word .ensures) (M .running (a .l) n known z) in
-    let q = c .before .before .before .before .before .before .before .before .before .chosen .ensures c' e f R (M .linked) (M .asked) (M .room) (omega (arith, known, few))
+    let q = c .before .before .before .before .before .before .before .before .before .chosen .ensures c' e f R (M .linked) (M .holds) (M .room) (omega (arith, known, few)) (record { inputs = c .before .before .before .before .before .before .before .before .before .before .before .before .before .before .before .before .before .before .before .before .before .fits .x .fits; timers = c .before .before .before .before .before .before .before .before .before .before .expired-of .ok })
     ∙ chosen-on c' R (a .x) ran y (a .l) m ts le bits (λ j z. rw g (c .before .before .before .before .before .before .before .before .before .before .expired-of .ensures fewer j (omega (arith, count, z)))) in
     let after = c .before .before .before .before .before .before .before .leaf-after .ensures c' e f R lm le in
     let next : (T : SoundMemory c' (take (stateCount c') m')) → c .before .before .before .before .before .before .before .leaf-after .result ≡ activeLeaf c' (take (stateCount c') m') = after .1 in

@@ -1,6 +1,6 @@
 use Rattle.check_tables.specs.Verdicts.{literalCheck, fails-at, all-pass}
 use Rattle.tables.specs.Given.{move-count}
-use Rattle.check_needs.specs.Words.{WordsTo}
+use Rattle.check_needs.specs.Words.{needWords, WordsTo}
 use Rattle.meaning.specs.Check.{literalPasses}
 use Rattle.meaning.specs.Tables.{Tables, moveRow, moveCount, timerCount}
 use lib.ListN.{length}
@@ -15,11 +15,11 @@ use Rattle.check_tables.proofs.judge_literal.Statement.{statement}
 use Rattle.check_tables.proofs.judge_literal.Tie as tie
 
 abbrev Inv-loop : tie.InvT-loop
-Inv-loop inputs timers moves asks₀ i₀ asks i = (i ≤ length moves / moveRow) × (length asks ≡ length asks₀)
-    × ((c : Tables) → c .inputs ≡ inputs → timerCount c ≡ timers → c .moves ≡ moves → ((m : ℕ) → m < i → literalPasses c m ≡ true) × (moveCount c ≤ length asks₀ / 4 → WordsTo c i asks))
+Inv-loop inputs timers moves needs₀ i₀ needs i = (i ≤ length moves / moveRow) × (length needs ≡ length needs₀)
+    × ((c : Tables) → c .inputs ≡ inputs → timerCount c ≡ timers → c .moves ≡ moves → ((m : ℕ) → m < i → literalPasses c m ≡ true) × (moveCount c ≤ length needs₀ / needWords → WordsTo c i needs))
 
 abbrev μ-loop : tie.MeasureT-loop
-μ-loop inputs timers moves asks₀ i₀ asks i = length moves / moveRow - i
+μ-loop inputs timers moves needs₀ i₀ needs i = length moves / moveRow - i
 
 loop-holds : tie.Need-loop-holds Inv-loop μ-loop
 loop-holds c = (omega arith, refl, λ c' p q e. (below-none (λ m. literalPasses c' m ≡ true), λ h k g. absurd (omega arith)))

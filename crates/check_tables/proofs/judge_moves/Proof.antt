@@ -1,4 +1,4 @@
-use Rattle.check_tables.specs.Verdicts.{checkOf, askChecks, front-decides, later-decide, passed, isRefused}
+use Rattle.check_tables.specs.Verdicts.{checkOf, needChecks, front-decides, later-decide, passed, isRefused}
 use Rattle.check_idle.specs.Leaves.{Sources, source-known}
 use Rattle.meaning.specs.Tables.{Tables}
 use Rattle.meaning.specs.Check.{verdictOf}
@@ -27,13 +27,13 @@ returns : tie.Need-returns
 returns c s =
     let a = c .before .before .before .before .before .before .before .args in
     let t = tablesOf (a .chart) (a .states .now) (a .moves .now) (a .presets .now) (a .timer-pairs .now) (a .output-pairs .now) in
-    front-decides (checkOf t L.Move ∷ []) (askChecks t) (c .before .before .judge .ensures) (c .before .refused .ensures) (c .if1 .taken)
+    front-decides (checkOf t L.Move ∷ []) (needChecks t) (c .before .before .judge .ensures) (c .before .refused .ensures) (c .if1 .taken)
 
-slice-aggregate-judge-asks : tie.Need-slice-aggregate-judge-asks
-slice-aggregate-judge-asks c = search needs
+slice-aggregate-judge-needs : tie.Need-slice-aggregate-judge-needs
+slice-aggregate-judge-needs c = search needs
 
-judge-asks-requires : tie.Need-judge-asks-requires
-judge-asks-requires c κs = search needs
+judge-needs-requires : tie.Need-judge-needs-requires
+judge-needs-requires c κs = search needs
 
 returns-2 : tie.Need-returns-2
 returns-2 c s =
@@ -42,14 +42,14 @@ returns-2 c s =
     let j = c .before .before .before .before .before .before .judge in
     let r = c .before .before .before .before .before .refused in
     let l = c .before .before .before .before .if1 .left in
-    c .before .judge-asks .ensures t refl refl refl refl refl s (sources t (ap isRefused (sym (j .ensures)) ∙ sym (r .ensures) ∙ l)) (omega (arith, move-count t _ refl, c .before .before .before .if2 .taken))
-    ∙ later-decide (checkOf t L.Move ∷ []) (askChecks t) (j .ensures) (r .ensures) l
+    c .before .judge-needs .ensures t refl refl refl refl refl s (sources t (ap isRefused (sym (j .ensures)) ∙ sym (r .ensures) ∙ l)) (omega (arith, move-count t _ refl, c .before .before .before .if2 .taken))
+    ∙ later-decide (checkOf t L.Move ∷ []) (needChecks t) (j .ensures) (r .ensures) l
 
-slice-aggregate-judge-asks-2 : tie.Need-slice-aggregate-judge-asks-2
-slice-aggregate-judge-asks-2 c = search needs
+slice-aggregate-judge-needs-2 : tie.Need-slice-aggregate-judge-needs-2
+slice-aggregate-judge-needs-2 c = search needs
 
-judge-asks-requires-2 : tie.Need-judge-asks-requires-2
-judge-asks-requires-2 c κs = search needs
+judge-needs-requires-2 : tie.Need-judge-needs-requires-2
+judge-needs-requires-2 c κs = search needs
 
 returns-3 : tie.Need-returns-3
 returns-3 c s =
@@ -58,8 +58,8 @@ returns-3 c s =
     let j = c .before .before .before .before .before .before .judge in
     let r = c .before .before .before .before .before .refused in
     let l = c .before .before .before .before .if1 .left in
-    c .before .judge-asks2 .ensures t refl refl refl refl refl s (sources t (ap isRefused (sym (j .ensures)) ∙ sym (r .ensures) ∙ l)) (s .fewMoves)
-    ∙ later-decide (checkOf t L.Move ∷ []) (askChecks t) (j .ensures) (r .ensures) l
+    c .before .judge-needs2 .ensures t refl refl refl refl refl s (sources t (ap isRefused (sym (j .ensures)) ∙ sym (r .ensures) ∙ l)) (s .fewMoves)
+    ∙ later-decide (checkOf t L.Move ∷ []) (needChecks t) (j .ensures) (r .ensures) l
 
 pub judge-moves-spec : {M : Type 1} → statement M
 judge-moves-spec =
@@ -68,9 +68,9 @@ judge-moves-spec =
     judge-requires
     refused-requires
     returns
-    slice-aggregate-judge-asks
-    judge-asks-requires
+    slice-aggregate-judge-needs
+    judge-needs-requires
     returns-2
-    slice-aggregate-judge-asks-2
-    judge-asks-requires-2
+    slice-aggregate-judge-needs-2
+    judge-needs-requires-2
     returns-3)

@@ -9,10 +9,14 @@ use Rattle.format.specs.Records.{decimalWithin, negative, decimalFits, f
 use Rattle.format.specs.Printed.{recordAt, fileCheck, frameCheck, scansFileCheck, fieldChecks, naturals, tables}
 use Rattle.format.specs.Printed.{chartText, roomCheck, printedVerdict, comma, scanLines, refusalLine, printedAs}
 use Rattle.format.specs.Printed.{printed}
+use Rattle.format.specs.NeedsTable.{namesOf, thingNames, spaced, thingsText, upward, needsLine, needsTable}
+use Rattle.format.specs.NeedsTable.{overlapLine, needsKnown, needsPage, needsVerdict, needsPrinted}
 
 unfoldable pub computeAll : ℕ
 unfolding compute operandNumber word words digits decimal operandText operatorText line blockLine declarations text
     room front pieces withoutCr endedRecords records content fields same spelt decimalWithin negative decimalFits
     fieldValue recordPasses numbers recordAt fileCheck frameCheck scansFileCheck fieldChecks naturals tables
     chartText roomCheck printedVerdict comma scanLines refusalLine printedAs printed
+    namesOf thingNames spaced thingsText upward needsLine needsTable overlapLine needsKnown needsPage needsVerdict
+    needsPrinted
 computeAll = 0

@@ -11,8 +11,9 @@ use Rattle.meaning.specs.Layout.{otherSubState, code}
 use Rattle.meaning.specs.Literals.{kindOf, wanted, holdsAs, holds, literalsHold, inputOn}
 use Rattle.meaning.specs.Check.{firstFailing, verdictOf, sizePasses, hierarchyPasses, initialPasses, presetPasses}
 use Rattle.meaning.specs.Check.{pairAfter, pairPasses, below, movePasses, withinCounts, mayPrecede, placePasses}
-use Rattle.meaning.specs.Check.{literalPasses, runsBelow, idlePasses, opposed, clash, overlaps, overlapPasses}
+use Rattle.meaning.specs.Check.{literalPasses, runsBelow, idlePasses, overlaps, overlapPasses, earlier}
 use Rattle.meaning.specs.Check.{flipFlopPasses, checks, verdict}
+use Rattle.meaning.specs.Needs.{named, neededBy, meet, clash}
 use Rattle.meaning.specs.Machine.{remembered, timerValue, descend, follow, activeLeaf, enabled, chosen}
 use Rattle.meaning.specs.Machine.{leadsBelow, reached, remembersAfter, memoryAfterMove, timerExpired, timerAfter}
 use Rattle.meaning.specs.Machine.{startState, setting, memoryAfterStep, stateAfterStep, wordOf, seenAtLeaf, seenIn, trace}
@@ -40,8 +41,8 @@ unfolding flatMap headD least some count table stateCount moveCount timerCount p
     subState subStates isLeaf paired timerRuns outputOn significantIn significant width groupWidth groupFirst
     flipFlopCount otherSubState code kindOf wanted holdsAs holds literalsHold inputOn firstFailing verdictOf sizePasses
     hierarchyPasses initialPasses presetPasses pairAfter pairPasses below movePasses withinCounts mayPrecede
-    placePasses literalPasses runsBelow idlePasses opposed clash overlaps overlapPasses flipFlopPasses checks
-    verdict remembered timerValue descend follow activeLeaf enabled chosen leadsBelow reached remembersAfter
+    placePasses literalPasses runsBelow idlePasses named neededBy meet clash overlaps overlapPasses earlier flipFlopPasses
+    checks verdict remembered timerValue descend follow activeLeaf enabled chosen leadsBelow reached remembersAfter
     memoryAfterMove timerExpired timerAfter startState setting memoryAfterStep stateAfterStep wordOf seenAtLeaf seenIn trace
     stateAfterScans superStatesBelow lentLength coded lentCode lentMemory stateOf lentCodes lentOf codePasses timerPasses
     statePasses stateCheck scansCheck chartRunChecks overlaid lastActive lastRan expiredBy nextLeaf firstLeaf

@@ -1,72 +1,30 @@
--- The test for overlap is what overlap means; an accepted chart never has two enabled moves.
+-- Near and no clash is what overlap means; an accepted chart never has two enabled moves.
 use mathlib.Core.Path.{_≡_, refl, sym, ap, _∙_}
 use mathlib.Core.Logic.{_≢_, inl, inr, _↔_}
-use Prim.Native.Nat.{ℕ, suc, _+_, _-_, _<_}
+use Prim.Native.Nat.{ℕ, suc, _+_, _<_}
 use native.Mathlib.Omega.{arith}
 use native.Mathlib.Decide.{decLe}
-use mathlib.Core.Bool.{Bool, true, false, not, _&&_, _||_, Bool·beq, true≢false, false≢true, or-comm}
-use lib.Dec.{leb, eqb}
-use lib.IntN.{ℤ, natAbs}
-use borrow.Author.Tests.{eqb-true, eqb-false, eq-eqb, ne-eqb, leb-true, not-true}
-use Rattle.meaning.specs.Rows.{some, every}
-use Rattle.meaning.specs.Laws.Rows.{which, and-l, and-r, and-both, or-cases, or-l, or-r, false-not, same-test, some-yes, some-no, some-none, some-intro, every-yes, every-intro, least-at, least-none, least-passes}
+use mathlib.Core.Bool.{Bool, true, false, not, _&&_, _||_, true≢false, or-comm}
+use lib.Dec.{eqb}
+use lib.IntN.{natAbs}
+use borrow.Author.Tests.{eqb-true, eqb-false, not-true}
+use Rattle.meaning.specs.Rows.{every}
+use Rattle.meaning.specs.Laws.Rows.{which, and-l, and-r, and-both, or-cases, or-l, or-r, false-not, false-by, not-both, every-yes, least-at, least-none, least-passes}
 use Rattle.meaning.specs.Tables.{Tables, literalPlaces, moveCount, source, literal}
 use Rattle.meaning.specs.Hierarchy.{atOrAbove}
-use Rattle.meaning.specs.Literals.{between, kindOf, wanted, Setting, holdsAs, holds, literalsHold}
+use Rattle.meaning.specs.Literals.{kindOf, wanted, Setting, literalsHold}
+use Rattle.meaning.specs.Needs.{Things, namedAt, neededBy, needsOn, needsOff, meet, clash, union, justOn, bothOn}
 use Rattle.meaning.specs.Rules.{Overlap, Rules}
 use Rattle.meaning.specs.Laws.Hierarchy.{at-or-above-tells, one-above}
-use Rattle.meaning.specs.Check.{withinCounts, mayPrecede, placePasses, literalPasses, opposed, clash, overlaps}
+use Rattle.meaning.specs.Laws.Needs.{standsIn, stands-by, size-as, input-named, timer-named, inputs-known, timers-known, Fits, holds-fits, fits-holds, inputs-meet, timers-meet, meet-by, clash-back}
+use Rattle.meaning.specs.Check.{withinCounts, mayPrecede, placePasses, literalPasses, overlaps}
 use Rattle.meaning.specs.Machine.{enabled, chosen}
-use Rattle.meaning.specs.declared.Kind.{Kind}
-use Rattle.meaning.specs.declared.Kind.the-variants.{Unused, Input, Timer, Unknown}
+use Rattle.meaning.specs.declared.Kind.the-variants.{Input, Timer}
 
--- ---- what a kind says of the size
-
--- the size that has this kind, or d
-sizeOr : ℕ → Kind → ℕ
-sizeOr d Unused = 0
-sizeOr d (Input i) = i
-sizeOr d (Timer t) = 100 + t
-sizeOr d Unknown = d
-
-size-of-kind : (n : ℕ) → sizeOr n (kindOf n) ≡ n
-unfolding kindOf sizeOr
-size-of-kind n = elim (which (eqb n 0)) [
-  | inl e ↦ rw (e, kindOf) (sym (eqb-true n 0 e))
-  | inr e ↦ elim (which (between 1 64 n)) [
-    | inl f ↦ rw (e, kindOf, f)
-    | inr f ↦ elim (which (between 101 132 n)) [
-      | inl g ↦ (let h = leb-true 101 n (and-l _ (leb n 132) g) in rw (e, kindOf, f, g) (omega arith))
-      | inr g ↦ rw (e, kindOf, f, g)
-    ]
-  ]
-]
-
--- ---- from the test to a setting
-
--- the setting in which exactly the sizes are on that `on` gives
-settingOf : (ℕ → Bool) → Setting
-settingOf on = record { input = on; expired = λ t. on (100 + t) }
-
-same-beq : (w v : Bool) → v ≡ w → Bool·beq w v ≡ true
-same-beq true v e = rw e
-same-beq false v e = rw e
-
-holds-in : (c : Tables) (on : ℕ → Bool) (z : ℤ) → withinCounts c (kindOf (natAbs z)) ≡ true → (natAbs z ≢ 0 → on (natAbs z) ≡ wanted z) → holds (settingOf on) z ≡ true
-unfolding holds settingOf kindOf holdsAs sizeOr withinCounts
-holds-in c on z k h = elim (which (eqb (natAbs z) 0)) [
-  | inl e ↦ rw (kindOf, e)
-  | inr e ↦ go (kindOf (natAbs z)) (size-of-kind (natAbs z)) k (h (eqb-false (natAbs z) 0 e))
-]
-  where
-    go : (q : Kind) → sizeOr (natAbs z) q ≡ natAbs z → withinCounts c q ≡ true → on (natAbs z) ≡ wanted z → holdsAs (settingOf on) (wanted z) q ≡ true
-    go Unused e w g = refl
-    go (Input i) e w g = same-beq (wanted z) (on i) (ap on e ∙ g)
-    go (Timer t) e w g = same-beq (wanted z) (on (100 + t)) (ap on e ∙ g)
-    go Unknown e w g = absurd (false≢true w)
+-- ---- the places of a move
 
 -- what an accepted move says of its own places
-place-known : (c : Tables) (i a : ℕ) → literalPasses c i ≡ true → a < literalPlaces → withinCounts c (kindOf (natAbs (literal c i a))) ≡ true
+pub place-known : (c : Tables) (i a : ℕ) → literalPasses c i ≡ true → a < literalPlaces → withinCounts c (kindOf (natAbs (literal c i a))) ≡ true
 unfolding literalPasses placePasses
 place-known c i a p h = and-l _ _ (every-yes (placePasses c i) literalPlaces p a h)
 
@@ -86,110 +44,75 @@ one-place c i a b p g h n e = elim (decLe (suc a) b) [
   | no u ↦ elim (decLe (suc b) a) [ yes v ↦ absurd (place-once c i b a p v g n (sym e)) | no v ↦ omega arith ]
 ]
 
-same-wish : (y z : ℤ) → opposed y z ≡ false → natAbs y ≢ 0 → natAbs y ≡ natAbs z → wanted y ≡ wanted z
-unfolding opposed
-same-wish y z o n e = go (wanted y) (wanted z) (rw (ne-eqb _ 0 n, eq-eqb _ _ e) at o)
+-- ---- from the test to a setting
+
+-- without a clash it has nothing that a move needs off: in one class of things, whichever
+module _ (c : Tables) (i j : ℕ) (p : literalPasses c i ≡ true) (has : Things → Bool) (m : ℕ) (n : m ≢ 0)
+    (size : (k : ℕ) → has (namedAt c i k) ≡ true → natAbs (literal c i k) ≡ m)
+    (apart : standsIn c j literalPlaces true has ≡ true → standsIn c i literalPlaces false has ≡ true → ⊥) where
+  not-off : standsIn c i literalPlaces false has ≡ true → (standsIn c i literalPlaces true has || standsIn c j literalPlaces true has) ≡ false
+  not-off e = false-by _ (λ f. elim (or-cases (standsIn c i literalPlaces true has) (standsIn c j literalPlaces true has) f) [
+    | inl g ↦ (
+        let a = stands-by c i literalPlaces true has g in
+        let b = stands-by c i literalPlaces false has e in
+        let k = one-place c i (a .0) (b .0) p (a .1) (b .1) (λ z. n (sym (size (a .0) (a .3)) ∙ z)) (size (a .0) (a .3) ∙ sym (size (b .0) (b .3))) in
+        true≢false (sym (a .2) ∙ ap (λ x. wanted (literal c i x)) k ∙ b .2))
+    | inr g ↦ apart g e
+  ])
+
+-- so it fits the move
+on-fits : (c : Tables) (i j : ℕ) → literalPasses c i ≡ true → clash c i j ≡ false → (s : Things)
+    → ((n : ℕ) → s .inputs n ≡ (needsOn c i .inputs n || needsOn c j .inputs n))
+    → ((t : ℕ) → s .timers t ≡ (needsOn c i .timers t || needsOn c j .timers t)) → Fits c (justOn s) i
+unfolding clash neededBy
+on-fits c i j p e s onInputs onTimers = record { inputs = inputs; timers = timers }
   where
-    go : (v w : Bool) → not (Bool·beq v w) ≡ false → v ≡ w
-    go true true u = refl
-    go true false u = absurd (true≢false u)
-    go false true u = absurd (true≢false u)
-    go false false u = refl
+    apart : meet (needsOn c j) (needsOff c i) ≡ true → ⊥
+    apart f = not-both e (or-r (meet (needsOn c i) (needsOff c j)) _ f)
 
--- a literal of move i asks for size n to be on
-asked : Tables → ℕ → ℕ → Bool
-asked c i n = some (λ a. wanted (literal c i a) && eqb (natAbs (literal c i a)) n) 0 literalPlaces
+    inputs : (w : Bool) (n : ℕ) → neededBy c i literalPlaces w .inputs n ≡ true → s .inputs n ≡ w
+    inputs true n f = onInputs n ∙ or-l _ _ f
+    inputs false n f =
+        let z = inputs-known c i literalPlaces false n f in
+        onInputs n ∙ not-off c i j p (λ s. s .inputs n) n (λ x. omega (arith, z .0, x))
+        (λ k g. size-as (natAbs (literal c i k)) (Input n) (input-named _ n g) .0)
+        (λ a b. apart (inputs-meet (needsOn c j) (needsOff c i) n (z .0) (z .1) a b)) f
 
-asked-by : (c : Tables) (i n : ℕ) → asked c i n ≡ true → (a : ℕ) × (a < literalPlaces) × (wanted (literal c i a) ≡ true) × (natAbs (literal c i a) ≡ n)
-unfolding asked
-asked-by c i n e = let r = some-yes (λ a. wanted (literal c i a) && eqb (natAbs (literal c i a)) n) 0 literalPlaces e in
-    (r .0, omega (arith, r .2), and-l _ _ (r .3), eqb-true _ n (and-r (wanted (literal c i (r .0))) _ (r .3)))
+    timers : (w : Bool) (t : ℕ) → neededBy c i literalPlaces w .timers t ≡ true → s .timers t ≡ w
+    timers true t f = onTimers t ∙ or-l _ _ f
+    timers false t f =
+        let z = timers-known c i literalPlaces false t f in
+        onTimers t ∙ not-off c i j p (λ s. s .timers t) (100 + t) (λ x. omega (arith, x))
+        (λ k g. size-as (natAbs (literal c i k)) (Timer t) (timer-named _ t g) .0)
+        (λ a b. apart (timers-meet (needsOn c j) (needsOff c i) t (z .0) (z .1) a b)) f
 
--- what is asked for on, by either move, is what each of its literals wants
-as-wanted : (c : Tables) (i j a : ℕ) → literalPasses c i ≡ true → ((b : ℕ) → b < literalPlaces → opposed (literal c i a) (literal c j b) ≡ false)
-    → a < literalPlaces → natAbs (literal c i a) ≢ 0 → (asked c i (natAbs (literal c i a)) || asked c j (natAbs (literal c i a))) ≡ wanted (literal c i a)
-unfolding asked
-as-wanted c i j a p u h n = same-test _ _ there back
-  where
-    there : (asked c i (natAbs (literal c i a)) || asked c j (natAbs (literal c i a))) ≡ true → wanted (literal c i a) ≡ true
-    there e = elim (or-cases (asked c i (natAbs (literal c i a))) (asked c j (natAbs (literal c i a))) e) [
-      | inl f ↦ (let r = asked-by c i (natAbs (literal c i a)) f in
-          rw (one-place c i a (r .0) p h (r .1) n (sym (r .3))) (r .2))
-      | inr f ↦ (let r = asked-by c j (natAbs (literal c i a)) f in
-          same-wish (literal c i a) (literal c j (r .0)) (u (r .0) (r .1)) n (sym (r .3)) ∙ r .2)
-    ]
-
-    back : wanted (literal c i a) ≡ true → (asked c i (natAbs (literal c i a)) || asked c j (natAbs (literal c i a))) ≡ true
-    back e = or-l _ _ (some-intro (λ b. wanted (literal c i b) && eqb (natAbs (literal c i b)) (natAbs (literal c i a))) 0 literalPlaces a (omega arith) (omega arith)
-        (and-both (wanted (literal c i a)) (eqb (natAbs (literal c i a)) (natAbs (literal c i a))) e (eq-eqb (natAbs (literal c i a)) (natAbs (literal c i a)) refl)))
-
--- without a clash each literal of move i holds where exactly that is on which the two moves ask for
-all-hold : (c : Tables) (i j : ℕ) (on : ℕ → Bool) → literalPasses c i ≡ true → ((a b : ℕ) → a < literalPlaces → b < literalPlaces → opposed (literal c i a) (literal c j b) ≡ false)
-    → ((n : ℕ) → on n ≡ (asked c i n || asked c j n)) → literalsHold c (settingOf on) i ≡ true
-unfolding literalsHold
-all-hold c i j on p u o = every-intro (λ a. holds (settingOf on) (literal c i a)) literalPlaces
-    (λ a h. holds-in c on (literal c i a) (place-known c i a p h) (λ n. o (natAbs (literal c i a)) ∙ as-wanted c i j a p (λ b k. u a b h k) h n))
-
-no-clash : (c : Tables) (i j : ℕ) → clash c i j ≡ false → (a b : ℕ) → a < literalPlaces → b < literalPlaces → opposed (literal c i a) (literal c j b) ≡ false
-unfolding clash
-no-clash c i j e a b h k =
-    some-no (λ d. opposed (literal c i a) (literal c j d)) 0 literalPlaces
-    (some-no (λ d. some (λ f. opposed (literal c i d) (literal c j f)) 0 literalPlaces) 0 literalPlaces e a (omega arith) (omega arith)) b (omega arith) (omega arith)
-
-opposed-back : (y z : ℤ) → opposed y z ≡ false → opposed z y ≡ false
-unfolding opposed
-opposed-back y z e = elim (which (opposed z y)) [ inr f ↦ f | inl f ↦ absurd (true≢false (sym (turned f) ∙ e)) ]
-  where
-    other-way : (v w : Bool) → not (Bool·beq v w) ≡ true → not (Bool·beq w v) ≡ true
-    other-way true true u = u
-    other-way true false u = u
-    other-way false true u = u
-    other-way false false u = u
-
-    turned : opposed z y ≡ true → opposed y z ≡ true
-    turned f =
-        let g = eqb-true (natAbs z) (natAbs y) (search (and-l, and-r)) in
-        let n : not (eqb (natAbs z) 0) ≡ true = search (and-l, and-r) in
-        and-both _ _ (and-both _ _ (rw g at n) (eq-eqb _ _ (sym g))) (other-way (wanted z) (wanted y) (search (and-l, and-r)))
+-- "some setting of inputs and of timers, taken as free": with just that on, the literals of both hold
+pub both-hold : (c : Tables) (i j : ℕ) → literalPasses c i ≡ true → literalPasses c j ≡ true → clash c i j ≡ false
+    → (literalsHold c (justOn (bothOn c i j)) i ≡ true) × (literalsHold c (justOn (bothOn c i j)) j ≡ true)
+both-hold c i j p q e = (
+  fits-holds c (justOn (bothOn c i j)) i (λ k h. place-known c i k p h) (on-fits c i j p e (bothOn c i j) (λ n. refl) (λ t. refl)),
+  fits-holds c (justOn (bothOn c i j)) j (λ k h. place-known c j k q h)
+      (on-fits c j i q (clash-back c j i ∙ e) (bothOn c i j) (λ n. or-comm (needsOn c i .inputs n) (needsOn c j .inputs n)) (λ t. or-comm (needsOn c i .timers t) (needsOn c j .timers t))),
+)
 
 -- ---- from a setting to the test
 
--- one thing cannot be on and off
-on-and-off : (b : Bool) → Bool·beq true b ≡ true → Bool·beq false b ≡ true → ⊥
-on-and-off true e f = false≢true f
-on-and-off false e f = false≢true e
-
-only-unused : (v : Setting) (q : Kind) → holdsAs v true q ≡ true → holdsAs v false q ≡ true → q ≡ Unused
-unfolding holdsAs
-only-unused v Unused p r = refl
-only-unused v (Input i) p r = absurd (on-and-off (v .input i) p r)
-only-unused v (Timer t) p r = absurd (on-and-off (v .expired t) p r)
-only-unused v Unknown p r = absurd (false≢true p)
-
-not-opposed : (v : Setting) (y z : ℤ) → holds v y ≡ true → holds v z ≡ true → opposed y z ≡ false
-unfolding opposed holds sizeOr
-not-opposed v y z p q = elim (which (opposed y z)) [
-  | inr f ↦ f
-  | inl f ↦ absurd (
-      let n : not (eqb (natAbs y) 0) ≡ true = search (and-l, and-r) in
-      let e = eqb-true (natAbs y) (natAbs z) (search (and-l, and-r)) in
-      let u : not (Bool·beq (wanted y) (wanted z)) ≡ true = search (and-l, and-r) in
-      let k = unused (wanted y) (wanted z) u p (rw (← e) at q) in
-      eqb-false (natAbs y) 0 (not-true _ n) (sym (size-of-kind (natAbs y)) ∙ ap (sizeOr (natAbs y)) k))
+-- nothing is on and off
+no-meet : (c : Tables) (v : Setting) (i j : ℕ) → Fits c v i → Fits c v j → meet (needsOn c i) (needsOff c j) ≡ true → ⊥
+no-meet c v i j p q e = elim (meet-by (needsOn c i) (needsOff c j) e) [
+  | inl r ↦ true≢false (sym (p .inputs true (r .0) (r .1)) ∙ q .inputs false (r .0) (r .2))
+  | inr r ↦ true≢false (sym (p .timers true (r .0) (r .1)) ∙ q .timers false (r .0) (r .2))
 ]
-  where
-    unused : (a b : Bool) → not (Bool·beq a b) ≡ true → holdsAs v a (kindOf (natAbs y)) ≡ true → holdsAs v b (kindOf (natAbs y)) ≡ true → kindOf (natAbs y) ≡ Unused
-    unused true true u g h = absurd (false≢true u)
-    unused true false u g h = only-unused v (kindOf (natAbs y)) g h
-    unused false true u g h = only-unused v (kindOf (natAbs y)) h g
-    unused false false u g h = absurd (false≢true u)
 
 holds-no-clash : (c : Tables) (i j : ℕ) (v : Setting) → literalsHold c v i ≡ true → literalsHold c v j ≡ true → clash c i j ≡ false
-unfolding clash literalsHold
-holds-no-clash c i j v p q = some-none (λ a. some (λ b. opposed (literal c i a) (literal c j b)) 0 literalPlaces) 0 literalPlaces
-    (λ a g h. some-none (λ b. opposed (literal c i a) (literal c j b)) 0 literalPlaces
-    (λ b k l. not-opposed v (literal c i a) (literal c j b)
-    (every-yes (λ d. holds v (literal c i d)) literalPlaces p a (omega arith)) (every-yes (λ d. holds v (literal c j d)) literalPlaces q b (omega arith))))
+unfolding clash
+holds-no-clash c i j v p q =
+    let f = holds-fits c v i p in
+    let g = holds-fits c v j q in
+    false-by (clash c i j) (λ e. elim (or-cases (meet (needsOn c i) (needsOff c j)) (meet (needsOn c j) (needsOff c i)) e) [
+      | inl h ↦ no-meet c v i j f g h
+      | inr h ↦ no-meet c v j i g f h
+    ])
 
 -- ---- the test and the meaning
 
@@ -201,15 +124,15 @@ overlaps-tells c i j p q = (there, back)
     there : overlaps c i j ≡ true → Overlap c i j
     there e =
         let n : (atOrAbove c (source c i) (source c j) || atOrAbove c (source c j) (source c i)) ≡ true = search and-l in
-        let k = no-clash c i j (not-true (clash c i j) (search (and-l, and-r))) in
+        let h = both-hold c i j p q (not-true (clash c i j) (search (and-l, and-r))) in
         record {
           near = elim (or-cases (atOrAbove c (source c i) (source c j)) (atOrAbove c (source c j) (source c i)) n) [
             | inl f ↦ inl (at-or-above-tells c (source c i) (source c j) .0 f)
             | inr f ↦ inr (at-or-above-tells c (source c j) (source c i) .0 f)
           ];
-          setting = settingOf (λ n. asked c i n || asked c j n);
-          one = all-hold c i j _ p k (λ n. refl);
-          two = all-hold c j i _ q (λ a b g h. opposed-back (literal c i b) (literal c j a) (k b a h g)) (λ n. or-comm (asked c i n) (asked c j n));
+          setting = justOn (bothOn c i j);
+          one = h .0;
+          two = h .1;
         }
 
     back : Overlap c i j → overlaps c i j ≡ true

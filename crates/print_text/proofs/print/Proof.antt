@@ -1,5 +1,5 @@
 use mathlib.Core.Path.{sym, _∙_}
-use Rattle.print_text.specs.Print.{heldTables, heldScans, printed-refused, printed-rows}
+use Rattle.print_text.specs.Print.{printed-refused, printed-rows}
 use borrow.Author.Needs.{needs}
 use Rattle.print_text.proofs.print.Statement.{statement}
 use Rattle.print_text.proofs.print.Tie as tie
@@ -36,13 +36,13 @@ same-length : tie.Need-same-length
 same-length c = search needs
 
 returns : tie.Need-returns
-returns c = let s = c .before .before .before .before .before .before .before .before .before .before .args in printed-refused (s .answers) (s .frame .now) (s .states .now) (s .moves .now) (s .presets .now) (s .timer-pairs .now) (s .output-pairs .now) (s .scans .now) _ _ _ _ (sym (c .before .before .before .before .before .before .before .fields-pass .ensures) ∙ c .before .before .before .before .before .v .given .1) (c .before .before .print-refusal .ensures (heldTables (s .answers) (s .frame .now) (s .states .now) (s .moves .now) (s .presets .now) (s .timer-pairs .now) (s .output-pairs .now)) (heldScans (s .answers) (s .scans .now)))
+returns c = let s = c .before .before .before .before .before .before .before .before .before .before .args in printed-refused (s .page) (s .answers) (s .frame .now) (s .states .now) (s .moves .now) (s .presets .now) (s .timer-pairs .now) (s .output-pairs .now) (s .scans .now) _ _ _ _ (sym (c .before .before .before .before .before .before .before .fields-pass .ensures) ∙ c .before .before .before .before .before .v .given .1) (c .before .before .print-refusal .ensures)
 
 same-length-2 : tie.Need-same-length-2
 same-length-2 c = search needs
 
 returns-2 : tie.Need-returns-2
-returns-2 c = let s = c .before .before .before .before .before .before .before .before .before .before .before .args in printed-rows (s .answers) (s .frame .now) (s .states .now) (s .moves .now) (s .presets .now) (s .timer-pairs .now) (s .output-pairs .now) (s .scans .now) _ _ _ (sym (c .before .before .before .before .before .before .before .before .fields-pass .ensures) ∙ c .before .before .before .before .before .before .enum-told .given .1) (c .before .before .print-rows .ensures (s .answers) (c .before .before .before .before .count-rows .ensures) (s .frame .now) (c .before .before .before .before .before .chart-of .ensures))
+returns-2 c = let s = c .before .before .before .before .before .before .before .before .before .before .before .args in printed-rows (s .page) (s .answers) (s .frame .now) (s .states .now) (s .moves .now) (s .presets .now) (s .timer-pairs .now) (s .output-pairs .now) (s .scans .now) _ _ _ (sym (c .before .before .before .before .before .before .before .before .fields-pass .ensures) ∙ c .before .before .before .before .before .before .enum-told .given .1) (c .before .before .print-rows .ensures (s .answers) (c .before .before .before .before .count-rows .ensures) (s .frame .now) (c .before .before .before .before .before .chart-of .ensures))
 
 pub print-spec : {M : Type 1} → statement M
 print-spec =

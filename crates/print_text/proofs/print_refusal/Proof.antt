@@ -1,5 +1,4 @@
 use mathlib.Core.Path.{refl}
-use Rattle.print_text.specs.Print.{printedOf}
 use borrow.Author.Needs.{needs}
 use Rattle.print_text.proofs.print_refusal.Statement.{statement}
 use Rattle.print_text.proofs.print_refusal.Tie as tie
@@ -14,8 +13,7 @@ same-length : tie.Need-same-length
 same-length c = search needs
 
 returns : tie.Need-returns
-unfolding printedOf
-returns c = λ c' xs. record { why = refl; written = c .before .before .put-refusal .ensures }
+returns c = record { why = refl; written = c .before .before .put-refusal .ensures }
 
 pub print-refusal-spec : {M : Type 1} → statement M
 print-refusal-spec = tie.close (tie.spec put-refusal-requires same-length returns)

@@ -116,7 +116,7 @@ returns c = λ a h frame e.
     let nt = c .before .before .before .before .before .before .before .before .before .before .before .before .ones4 .ensures ∙ ap (λ (k : ℕ). min k 4098) (h .timerPairs) ∙ least-twice (2 * rowsOf (a .«timer_pairs»)) 4098 in
     let no = c .before .before .before .before .before .before .before .before .before .before .before .ones5 .ensures ∙ ap (λ (k : ℕ). min k 4098) (h .outputPairs) ∙ least-twice (2 * rowsOf (a .«output_pairs»)) 4098 in
     let nx = ap (λ (k : ℕ). take k (s .scans .now)) (c .before .before .before .before .before .before .before .before .before .before .ones6 .ensures) ∙ scans-part (rowsOf (a .scans)) (s .n .scans) 4096 (s .scans .now) (h .scans) in
-    same-printed _ _ _ _ _ _ _
+    same-printed _ _ _ _ _ _ _ _
     (λ i. record {
       scanStep = e i .step;
       inputs = e i .inputs;

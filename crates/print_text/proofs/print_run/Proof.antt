@@ -1,4 +1,5 @@
 use Rattle.print_text.specs.Ran.{ran-refused, ran-wrote, text-fits, same-lengths, text-printed}
+use Rattle.print_text.specs.Print.{printedOf}
 use borrow.Author.Needs.{needs}
 use Rattle.print_text.proofs.print_run.Statement.{statement}
 use Rattle.print_text.proofs.print_run.Tie as tie
@@ -39,7 +40,7 @@ same-length-5 : tie.Need-same-length-5
 same-length-5 c = search needs
 
 returns : tie.Need-returns
-returns c = λ f w e g. (let q = ran-refused _ _ _ _ _ _ f w e g _ _ _ _ _ _ (c .before .before .before .before .before .before .before .before .before .before .before .before .before .before .before .run-written .ensures) (c .before .before .before .before .before .o .given .1) in rw q (c .before .before .print-refusal .ensures _ _))
+returns c = λ f w e g. (let q = ran-refused _ _ _ _ _ _ f w e g _ _ _ _ _ _ (c .before .before .before .before .before .before .before .before .before .before .before .before .before .before .before .run-written .ensures) (c .before .before .before .before .before .o .given .1) in unfold printedOf in (rw q (c .before .before .print-refusal .ensures)))
 
 same-length-6 : tie.Need-same-length-6
 same-length-6 c = search needs

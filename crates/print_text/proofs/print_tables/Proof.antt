@@ -1,56 +1,45 @@
-use Prim.Native.Nat.{ℕ}
-use mathlib.Core.Path.{sym}
-use native.Mathlib.Omega.{arith}
-use lib.ListN.{length-replicate}
-use lib.Seq.{length-take-le}
+use Rattle.print_text.specs.Print.{needs-printed}
 use borrow.Author.Needs.{needs}
 use Rattle.print_text.proofs.print_tables.Statement.{statement}
 use Rattle.print_text.proofs.print_tables.Tie as tie
 use Rattle.print_text.proofs.print_tables.Reads as reads
 use Rattle.print_text.proofs.print_tables.Lts as lts
-use Rattle.print_text.proofs.print_run.Reads as print-run-reads
+use Rattle.print_needs.proofs.print_needs.Reads as print-needs-reads
+use Rattle.print_text.proofs.print_scans.Reads as print-scans-reads
 
-returns : tie.Need-returns
-returns c = λ h. absurd (omega (arith, h))
+enum-told : tie.Need-enum-told
+enum-told c = search needs
 
-slice-aggregate-print-run : tie.Need-slice-aggregate-print-run
-slice-aggregate-print-run c = search needs
+print-scans-requires : tie.Need-print-scans-requires
+print-scans-requires c κs = search needs
 
-slice-aggregate-print-run-2 : tie.Need-slice-aggregate-print-run-2
-slice-aggregate-print-run-2 c = search needs
+enum-told-2 : tie.Need-enum-told-2
+enum-told-2 c = search needs
 
-array-borrow-prefix-leaves : tie.Need-array-borrow-prefix-leaves
-array-borrow-prefix-leaves c = search needs
-
-slice-aggregate-print-run-3 : tie.Need-slice-aggregate-print-run-3
-slice-aggregate-print-run-3 c = sym (length-take-le _ _ (search needs))
-
-array-borrow-prefix-outputs : tie.Need-array-borrow-prefix-outputs
-array-borrow-prefix-outputs c = search needs
-
-slice-aggregate-print-run-4 : tie.Need-slice-aggregate-print-run-4
-slice-aggregate-print-run-4 c = sym (length-take-le _ _ (search needs))
-
-print-run-requires : tie.Need-print-run-requires
-print-run-requires c κs = search needs
+print-needs-requires : tie.Need-print-needs-requires
+print-needs-requires c κs = search needs
 
 same-length : tie.Need-same-length
 same-length c = search needs
 
+returns : tie.Need-returns
+returns c = λ h. rw (c .before .before .before .before .enum-told .given .1) (c .before .before .print-scans .ensures h)
+
+same-length-2 : tie.Need-same-length-2
+same-length-2 c = search needs
+
 returns-2 : tie.Need-returns-2
-returns-2 c = λ h. c .before .before .before .before .before .before .print-run .ensures (length-replicate {A = ℕ} 65536 0) (length-replicate {A = ℕ} 65536 0) (length-take-le _ _ (search needs)) (length-take-le _ _ (search needs))
+returns-2 c = λ h. rw (c .before .before .before .before .enum-told2 .given .1) (needs-printed _ _ _ _ _ (c .before .before .print-needs .ensures))
 
 pub print-tables-spec : {M : Type 1} → statement M
 print-tables-spec =
     tie.close
     (tie.spec
-    returns
-    slice-aggregate-print-run
-    slice-aggregate-print-run-2
-    array-borrow-prefix-leaves
-    slice-aggregate-print-run-3
-    array-borrow-prefix-outputs
-    slice-aggregate-print-run-4
-    print-run-requires
+    enum-told
+    print-scans-requires
+    enum-told-2
+    print-needs-requires
     same-length
+    returns
+    same-length-2
     returns-2)

@@ -1,0 +1,4 @@
+pub mod Shown
+pub mod Passed
+pub mod Enabled
+pub mod Once
