@@ -1,3 +1,4 @@
+-- An unused place names nothing, and ends the literals.
 use mathlib.Core.Path.{refl, sym}
 use mathlib.Core.Bool.{true, false, Bool·beq}
 use Rattle.meaning.specs.Laws.Rows.{or-r}

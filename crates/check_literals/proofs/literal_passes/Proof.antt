@@ -1,3 +1,4 @@
+-- What the move needs is put into its words, which are those of one move more.
 use Rattle.check_needs.specs.WordsLaws.{words-more}
 use borrow.Author.Needs.{needs}
 use Rattle.check_literals.proofs.literal_passes.Statement.{statement}

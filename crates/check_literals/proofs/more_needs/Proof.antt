@@ -1,3 +1,4 @@
+-- By the sign: one set takes what the literal names, the other stays.
 use Rattle.check_literals.specs.PlaceLaws.{thing-more, thing-same}
 use borrow.Author.Needs.{needs}
 use Rattle.check_literals.proofs.more_needs.Statement.{statement}

@@ -1,3 +1,4 @@
+-- A used place adds what it names and does not end the literals.
 use mathlib.Core.Path.{refl, sym, ap, _∙_}
 use mathlib.Core.Bool.{_||_, or-false}
 use borrow.Author.Needs.{needs}

@@ -1,3 +1,4 @@
+-- By the kind of the literal.
 use mathlib.Core.Path.{ap}
 use Rattle.check_literals.specs.Places.{isUnused}
 use borrow.Author.Needs.{needs}

@@ -1,3 +1,4 @@
+-- Each meeting of sets is what its call says.
 use mathlib.Core.Path.{ap, _∙_}
 use mathlib.Core.Bool.{not}
 use Rattle.check_needs.specs.Words.{meetWords}

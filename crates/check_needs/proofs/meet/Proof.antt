@@ -1,3 +1,4 @@
+-- Class by class, from what the test of each word found.
 use lib.Bits.{bitAnd}
 use borrow.Author.Tests.{eq-eqb, ne-eqb}
 use Rattle.check_needs.proofs.meet.Statement.{statement}

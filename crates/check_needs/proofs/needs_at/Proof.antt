@@ -1,3 +1,4 @@
+-- With room the four words are read, without there are none.
 use native.Mathlib.Omega.{arith}
 use mathlib.Core.Path.{refl}
 use borrow.Author.Needs.{needs}

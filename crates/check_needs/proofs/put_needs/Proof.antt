@@ -1,3 +1,4 @@
+-- With room the four words are stored, without nothing is.
 use native.Mathlib.Omega.{arith}
 use mathlib.Core.Path.{refl}
 use lib.ListN.{length-set}

@@ -1,3 +1,4 @@
+-- Only the word of the inputs changes.
 use mathlib.Core.Path.{ap}
 use Rattle.check_needs.specs.declared.ThingWords.{ThingWords}
 use borrow.Author.Needs.{needs}

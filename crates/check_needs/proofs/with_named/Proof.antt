@@ -1,3 +1,4 @@
+-- By the kind of the literal.
 use mathlib.Core.Path.{refl}
 use borrow.Author.Needs.{needs}
 use Rattle.check_needs.proofs.with_named.Statement.{statement}

@@ -1,3 +1,4 @@
+-- The page is that of the verdict which the check with a witness gives.
 use Rattle.print_needs.specs.Lines.{MovesLent}
 use Rattle.tables.specs.Given.{tablesOf}
 use lib.ListN.{length}

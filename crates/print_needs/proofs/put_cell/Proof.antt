@@ -1,3 +1,4 @@
+-- A decimal, then a comma.
 use Rattle.write_lines.specs.Put.{put-put}
 use borrow.Author.Needs.{needs}
 use Rattle.print_needs.proofs.put_cell.Statement.{statement}

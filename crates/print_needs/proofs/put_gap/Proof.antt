@@ -1,3 +1,4 @@
+-- A space exactly where a name stands before.
 use native.Mathlib.Omega.{arith}
 use Rattle.write_lines.specs.Put.{put-none}
 use borrow.Author.Needs.{needs}

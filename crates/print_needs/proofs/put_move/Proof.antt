@@ -1,3 +1,4 @@
+-- Where LITERAL passes, the words are the sets of the move.
 use Rattle.print_needs.specs.Lines.{needs-line}
 use Rattle.meaning.specs.Needs.{needsOn, needsOff}
 use Prim.Native.Nat.{ℕ}

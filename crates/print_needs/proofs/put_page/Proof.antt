@@ -1,3 +1,4 @@
+-- By the verdict.
 use mathlib.Core.Path.{_∙_}
 use Rattle.format.specs.Text.{line}
 use Rattle.format.specs.NeedsTable.{needsPage}

@@ -1,3 +1,4 @@
+-- The word and the two numbers one after the other.
 use Rattle.write_lines.specs.Put.{put-put}
 use borrow.Author.Needs.{needs}
 use Rattle.print_needs.proofs.put_pair.Statement.{statement}

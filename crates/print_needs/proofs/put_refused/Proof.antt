@@ -1,3 +1,4 @@
+-- By the number of the refusal: below 9 and above 11 its line alone, 10 with the pair.
 use mathlib.Core.Path.{_≡_, _∙_}
 use Prim.Native.Nat.{ℕ, _≤_}
 use native.Mathlib.Omega.{arith}

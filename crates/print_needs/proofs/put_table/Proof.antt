@@ -1,3 +1,4 @@
+-- After i moves their lines stand below the line of names.
 use borrow.Author.Needs.{needs}
 use mathlib.Core.Path.{_≡_, refl, _∙_}
 use mathlib.Core.List.{flatMap}

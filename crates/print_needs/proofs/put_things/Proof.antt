@@ -1,3 +1,4 @@
+-- Inputs, then timers; where no name was written, the sign for nothing.
 use Rattle.print_needs.specs.Names.{set-put, things-some, things-none}
 use borrow.Author.Needs.{needs}
 use Rattle.print_needs.proofs.put_things.Statement.{statement}

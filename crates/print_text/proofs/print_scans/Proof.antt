@@ -1,3 +1,4 @@
+-- The run of the written text is printed over arrays of the lengths that it asks for.
 use Prim.Native.Nat.{ℕ}
 use mathlib.Core.Path.{sym}
 use native.Mathlib.Omega.{arith}
