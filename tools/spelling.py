@@ -13,10 +13,11 @@ import re
 import sys
 
 NAME = r"[A-Za-z][A-Za-z0-9_]*(?:-[A-Za-z0-9_₀-₉]+)*'*"
-DECLARED = re.compile(rf"^\s*(?:abbrev |unfoldable |pub )*(?:data |record )?({NAME})(?: :| \(|$)")
+DECLARED = re.compile(rf"^\s*(?:abbrev |unfoldable |pub )*(?:({NAME}) :|(?:data|record) ({NAME}))(?: |$)")
 TOKEN = re.compile(NAME)
 USE = re.compile(r"^(?:pub )?(?:ghost )?use ([^\s{;]+?)\.?(?:\{([^}]*)\})?(?: as (\S+?))?;?$")
-MADE = ("declared", "contracts", "Tie", "Reads", "Lts", "Statement", "Goals", "Given")
+MADE_SPECS = ("declared", "contracts")
+MADE_PROOFS = ("Tie", "Reads", "Lts", "Statement", "Goals")
 # laws in snake case already, each with the name that its definition gets: "a lemma that would have its function's name
 # gets _lem"
 LAWS = ("bit_test", "goes_on", "lent_length", "ok_at", "one_line", "operand_in", "set_below")
@@ -34,7 +35,7 @@ def antt_files(top):
 
 
 def is_walk(path):
-    return path.name in ("Proof.antt", "Answers.antt", "Invariants.antt")
+    return "proofs" in path.parts and path.name in ("Proof.antt", "Answers.antt", "Invariants.antt")
 
 
 def declared_in(text):
@@ -42,7 +43,7 @@ def declared_in(text):
     for line in text.splitlines():
         m = DECLARED.match(line)
         if m and not line.lstrip().startswith("--") and not line.startswith(("use ", "pub use ", "unfolding")):
-            names.add(m.group(1))
+            names.add(m.group(1) or m.group(2))
     return names
 
 
@@ -63,8 +64,10 @@ def own_names(top):
 
 def is_own(module):
     parts = module.split(".")
-    return parts[0] == "Rattle" and len(parts) > 2 and parts[1] != "std" and parts[2] in ("specs", "proofs") \
-        and not any(part in MADE for part in parts)
+    if parts[0] != "Rattle" or len(parts) < 3 or parts[1] == "std":
+        return False
+    return parts[2] == "specs" and not any(part in MADE_SPECS for part in parts) \
+        or parts[2] == "proofs" and not any(part in MADE_PROOFS for part in parts)
 
 
 def imports(text):

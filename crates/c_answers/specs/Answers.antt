@@ -35,10 +35,10 @@ pub record WitnessTold (w : Witness) (a : CWitness) : Type 0 where
   pub place : a.place ≡ verdict_place w.verdict
   pub earlier : a.earlier ≡ w.earlier
   pub state : a.state ≡ w.state
-  pub inputsOn : a.inputs_on ≡ w.on.inputs
-  pub inputsOff : a.inputs_off ≡ w.off.inputs
-  pub timersOn : a.timers_on ≡ w.on.timers
-  pub timersOff : a.timers_off ≡ w.off.timers
+  pub inputs_on : a.inputs_on ≡ w.on.inputs
+  pub inputs_off : a.inputs_off ≡ w.off.inputs
+  pub timers_on : a.timers_on ≡ w.on.timers
+  pub timers_off : a.timers_off ≡ w.off.timers
 
 -- a run that was done tells how many scans there were
 abbrev pub RanTold : Ran → CAnswer → Type 0
@@ -85,7 +85,7 @@ ScanTold (O.Refused r) a = ScanGiven (number_of r) (place_of r) 0 a
 pub record SizesGiven (n p f b : ℕ) (a : ControllerSizes) : Type 0 where
   pub number : a.number ≡ n
   pub place : a.place ≡ p
-  pub flipFlops : a.flip_flops ≡ f
+  pub flip_flops : a.flip_flops ≡ f
   pub blocks : a.blocks ≡ b
 
 abbrev pub SizesTell : Sizes → ControllerSizes → Type 0

@@ -1,4 +1,6 @@
 // Answers told in document 01's numbers: what the calls for C answer, as structs that C has too.
+#![tactic(auto)]
+
 ghost use Rattle.std.specs.Prelude.{◌≡◌, leb};
 ghost use Rattle.meaning.specs.declared.Verdict.{Verdict};
 ghost use Rattle.c_answers.specs.Answers.{Told, RanTold, StepTold, WrittenTold, SizesTell, ReadTold, ScanTold};
@@ -15,7 +17,7 @@ use roundtrip_call::WrittenRun;
 
 // Document 01's number of the answer, its place, and how much was written.
 #[repr(C)]
-#[derive(Drop)]
+#[derive(Clone, Copy)]
 pub struct CAnswer {
     pub number: u32,
     pub place: usize,
@@ -56,7 +58,7 @@ pub fn tell(v: Verdict) -> CAnswer
 
 // Document 01's number of the verdict and its place; for an OVERLAP what check_witness shows, else 0.
 #[repr(C)]
-#[derive(Drop)]
+#[derive(Clone, Copy)]
 pub struct CWitness {
     pub number: u32,
     pub place: u64,
@@ -163,7 +165,7 @@ pub fn tell_records(r: csv_file::FileRead) -> CAnswer
 
 // Document 01's number of the answer and its place, and what is seen after one scan.
 #[repr(C)]
-#[derive(Drop)]
+#[derive(Clone, Copy)]
 pub struct CStep {
     pub number: u32,
     pub place: usize,
@@ -196,7 +198,7 @@ pub fn tell_step(s: Stepped) -> CStep
 
 // Document 01's number of the answer, its place, and the output word of a scan.
 #[repr(C)]
-#[derive(Drop)]
+#[derive(Clone, Copy)]
 pub struct CScan {
     pub number: u32,
     pub place: usize,
@@ -226,7 +228,7 @@ pub fn tell_scan(r: il_run::Scanned) -> CScan
 
 // How many flip-flop bytes and blocks a controller for a list of words has.
 #[repr(C)]
-#[derive(Drop)]
+#[derive(Clone, Copy)]
 pub struct ControllerSizes {
     pub number: u32,
     pub place: usize,

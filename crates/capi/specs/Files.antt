@@ -4,7 +4,7 @@ use Rattle.std.proofs.Common.{sym, ◌∙◌, arith}
 use Rattle.meaning.specs.declared.Refusal.TheVariants as R
 use Rattle.meaning.specs.declared.Verdict.TheVariants as G
 use Rattle.csv_file.specs.declared.FileRead.{FileRead as FileAnswer}
-use Rattle.csv_file.specs.Reads.{RecordsRead, records-read-same}
+use Rattle.csv_file.specs.Reads.{RecordsRead, records_read_same}
 use Rattle.c_answers.specs.declared.CAnswer.{CAnswer}
 use Rattle.c_answers.specs.Answers.{Told}
 use Rattle.c_answers.specs.Files.{file_of, RecordsTold}
@@ -21,4 +21,4 @@ pub kind_read_same : {kind : ℕ} {bs out : List ℕ} {a b : CAnswer} {l m : Lis
 kind_read_same {a = a} {b = b} (KindRead.unknown h p e) (KindRead.unknown k q f) = (refused_once R.Size a b p q, e ∙ sym f)
 kind_read_same (KindRead.unknown h p e) (KindRead.known k s q f) = absurd (omega arith)
 kind_read_same (KindRead.known h r p e) (KindRead.unknown k q f) = absurd (omega arith)
-kind_read_same {a = a} {b = b} (KindRead.known h r p e) (KindRead.known k s q f) = (let z = records-read-same p q in (tell_records_once r a b e (rw (sym z.0) at f), z.1))
+kind_read_same {a = a} {b = b} (KindRead.known h r p e) (KindRead.known k s q f) = (let z = records_read_same p q in (tell_records_once r a b e (rw (sym z.0) at f), z.1))

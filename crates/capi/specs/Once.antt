@@ -15,7 +15,7 @@ use Rattle.chart_calls.specs.Runs.{ChartRan, one_run}
 use Rattle.chart_calls.specs.Steps.{ChartStepped, one_step}
 use Rattle.chart_calls.specs.declared.Stepped.{Stepped}
 use Rattle.write_text.specs.Texts.{ChartWritten, one_text}
-use Rattle.write_words.specs.Answers.{WordsWritten, words-written-same}
+use Rattle.write_words.specs.Answers.{WordsWritten, words_written_same}
 use Rattle.il_sizes.specs.Told.{SizesTold, sizes_told_same}
 use Rattle.format.specs.declared.Written.{Written}
 use Rattle.il_sizes.specs.declared.Sizes.{Sizes}
@@ -62,7 +62,7 @@ pub splicetuck_write_once : (c : Tables) (l : List ℕ) → Once {A = CAnswer ×
 splicetuck_write_once c l x y (r, p, t) (s, q, u) = let e = one_text c l r s _ _ p q in two (same_told WrittenTold tell_written_once e.0 t u, e.1)
 
 pub splicetuck_write_words_once : (ws l : List ℕ) → Once {A = CAnswer × List ℕ} (λ (a, m). (r : Written) × WordsWritten ws l r m × WrittenTold r a)
-splicetuck_write_words_once ws l x y (r, p, t) (s, q, u) = let e = words-written-same p q in two (same_told WrittenTold tell_written_once e.0 t u, e.1)
+splicetuck_write_words_once ws l x y (r, p, t) (s, q, u) = let e = words_written_same p q in two (same_told WrittenTold tell_written_once e.0 t u, e.1)
 
 pub splicetuck_read_once : (ts l : List ℕ) → Once {A = CAnswer × List ℕ} (λ (a, m). (r : ReadAnswer) × TextRead ts l r m × ReadTold r a)
 splicetuck_read_once ts l x y (r, p, t) (s, q, u) = let e = text_read_once p q in two (same_told ReadTold tell_read_once e.0 t u, e.1)

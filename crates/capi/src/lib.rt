@@ -1,4 +1,6 @@
 // The product's calls for C: numbers, and slices as a pointer and a length. include/splicetuck.h declares them.
+#![tactic(auto)]
+
 ghost use Rattle.meaning.specs.Check.{verdict};
 ghost use Rattle.meaning.specs.declared.Ran.{Ran};
 ghost use Rattle.tables.specs.Given.{tables_of};

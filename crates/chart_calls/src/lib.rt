@@ -1,5 +1,7 @@
 // The run of a chart over many scans, or one scan of it, for any tables and any lent slices: what is not to be run is
 // refused, in document 01's order.
+#![tactic(auto)]
+
 ghost use Rattle.tables.specs.Given.{tables_of};
 ghost use Rattle.chart_calls.specs.Runs.{ChartRan};
 ghost use Rattle.chart_calls.specs.Steps.{ChartStepped};
@@ -44,7 +46,7 @@ pub fn run_chart(
 }
 
 // One scan answers what is seen after it: the active leaf and the output word.
-#[derive(Drop)]
+#[derive(Clone, Copy)]
 pub enum Stepped {
     Done { leaf: u16, outputs: u64 },
     Refused(Refusal),

@@ -1,4 +1,6 @@
 // The run over a lent chart state. The tables have passed the check; on other tables it is harmless.
+#![tactic(auto)]
+
 ghost use Rattle.std.specs.Prelude.{◌≡◌, true, ◌≤◌, ◌/◌, length};
 ghost use Rattle.meaning.specs.Tables.{Tables, move_row};
 ghost use Rattle.meaning.specs.Rules.{Rules};

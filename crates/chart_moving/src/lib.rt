@@ -1,4 +1,6 @@
 // What a move does to the memory.
+#![tactic(auto)]
+
 ghost use Rattle.std.specs.Prelude.{◌≡◌, cond, ◌<◌, ◌≤◌, length, set, take, ltb};
 ghost use Rattle.meaning.specs.Tables.{Tables, state_count, move_count, initial};
 ghost use Rattle.meaning.specs.Rules.{Rules};

@@ -1,4 +1,6 @@
 // What the active path tells, for any tables at all: the leaf, and which timers are expired.
+#![tactic(auto)]
+
 ghost use Rattle.std.specs.Prelude.{◌≡◌, ◌&&◌, ◌||◌, eqb, ℕ, suc, ◌<◌, ◌≤◌, length};
 ghost use Rattle.meaning.specs.Machine.{remembered};
 ghost use Rattle.meaning.specs.Literals.{input_on};

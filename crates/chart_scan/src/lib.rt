@@ -1,5 +1,7 @@
 // The scans of a chart, one or many, over tables that passed the check; on other tables they are harmless. First the
 // enabled move: the literals as words and the moves by their source, and which of them holds.
+#![tactic(auto)]
+
 ghost use Rattle.std.specs.Prelude.{◌≡◌, ℕ, suc, ◌<◌, ◌≤◌, ◌+◌, ◌/◌, length, get_or, set, take, cond, ltb};
 ghost use Rattle.meaning.specs.Tables.{Tables, move_count, source, state_count};
 ghost use Rattle.meaning.specs.Rules.{Rules};

@@ -1,4 +1,6 @@
 // What is seen after a scan: the active leaf and the output word.
+#![tactic(auto)]
+
 ghost use Rattle.std.specs.Prelude.{◌≡◌, ◌<◌, set};
 ghost use Rattle.meaning.specs.Tables.{Tables, state_count};
 ghost use Rattle.meaning.specs.Rules.{Rules};

@@ -1,6 +1,8 @@
 // The chart state as it is lent: one slice, a code for each super-state by rising number, then a value in ms for each
 // timer; whether it passes, and what it stands for. The tables have passed the check; on other tables all of this is
 // harmless.
+#![tactic(auto)]
+
 ghost use Rattle.std.specs.Prelude.{◌≡◌, cond, true, List, ℕ, suc, ◌+◌, ◌<◌, ◌≤◌, length, get_or, set, take};
 ghost use Rattle.meaning.specs.Tables.{Tables, state_count};
 ghost use Rattle.meaning.specs.Hierarchy.{is_leaf};

@@ -1,4 +1,6 @@
 // The rules that a lent state and lent results are held to: document 01's refusals 14, STATE, and 15, SCANS.
+#![tactic(auto)]
+
 ghost use Rattle.std.specs.Prelude.{◌≡◌, ◌&&◌, ◌≤◌, length, eqb, ltb};
 ghost use Rattle.meaning.specs.Rows.{every};
 ghost use Rattle.meaning.specs.Machine.{remembered};

@@ -1,4 +1,6 @@
 // The chart state put back into the lent slice: the codes, then the timers' values.
+#![tactic(auto)]
+
 ghost use Rattle.std.specs.Prelude.{◌≡◌, cond, false, ◌++◌, ◌+◌, ◌<◌, ◌≤◌, length, get_or, take};
 ghost use Rattle.meaning.specs.Tables.{Tables, state_count};
 ghost use Rattle.meaning.specs.Hierarchy.{is_leaf};

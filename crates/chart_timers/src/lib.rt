@@ -1,4 +1,6 @@
 // The values of a chart's timers: how long each may grow, and what a step makes of them.
+#![tactic(auto)]
+
 ghost use Rattle.std.specs.Prelude.{◌≡◌, ℕ, suc, ◌<◌, ◌≤◌, length, get_or, set};
 ghost use Rattle.meaning.specs.Literals.{input_on};
 ghost use Rattle.chart_timers.specs.Times.{longest, value_grown};

@@ -1,4 +1,6 @@
 // Refusal 9, IDLE TIMER: which timers all leaves at or below a state run, and whether a move names another.
+#![tactic(auto)]
+
 ghost use Rattle.std.specs.Prelude.{◌≡◌, not, ◌&&◌, ◌||◌, ℕ, ◌<◌, ◌≤◌, ◌/◌, length, get_or, set};
 ghost use Rattle.std.specs.Int.Bits.{bit_and};
 ghost use Rattle.meaning.specs.Tables.{Tables, state_count, super_state, source};

@@ -1,4 +1,6 @@
 // The rules that the literals of a move are held to, document 01's refusal 8, LITERAL; and what they need on and off.
+#![tactic(auto)]
+
 ghost use Rattle.std.specs.Prelude.{◌≡◌, Bool, true, false, not, ◌&&◌, ◌||◌, ◌<◌, ◌≤◌, ◌/◌, ℕ, suc, length, nat_abs};
 ghost use Rattle.std.specs.Bool.{beq};
 ghost use Rattle.meaning.specs.declared.Kind.TheVariants.{Unused};
@@ -13,7 +15,7 @@ use meaning::Kind;
 use tables::Chart;
 
 // Of the literal places of a move so far: what they need, whether one of them is unused, and whether all pass.
-#[derive(Drop)]
+#[derive(Clone, Copy)]
 pub struct MoveNeeds {
     pub needs: Needs,
     pub ended: bool,

@@ -1,5 +1,7 @@
 // What a move needs on and what it needs off, as words: document 02, Ask 2. Whoever asks for it goes through here: a
 // class of things more is a field of `ThingWords` and two words more of a move.
+#![tactic(auto)]
+
 ghost use Rattle.std.specs.Prelude.{◌≡◌, ◌<◌, ◌≤◌, ◌/◌, length};
 ghost use Rattle.std.specs.Int.Bits.{bit_or};
 ghost use Rattle.meaning.specs.declared.Kind.TheVariants.{Input, Timer};
@@ -9,14 +11,14 @@ ghost use Rattle.check_needs.specs.Words.{others, hold_words, union_words, with_
 use meaning::Kind;
 
 // A set of things, a word for each class: number n is the bit of weight 2^(n-1).
-#[derive(Drop)]
+#[derive(Clone, Copy)]
 pub struct ThingWords {
     pub inputs: u64,
     pub timers: u64,
 }
 
 // What the literals of a move need on, and what they need off.
-#[derive(Drop)]
+#[derive(Clone, Copy)]
 pub struct Needs {
     pub on: ThingWords,
     pub off: ThingWords,

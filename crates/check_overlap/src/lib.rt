@@ -1,4 +1,6 @@
 // Which moves can be enabled together: document 01's refusal 10, OVERLAP.
+#![tactic(auto)]
+
 ghost use Rattle.std.specs.Prelude.{◌≡◌, suc, ◌<◌, ◌/◌, length};
 ghost use Rattle.meaning.specs.Tables.{Tables};
 ghost use Rattle.meaning.specs.Check.{earlier, overlap_passes};

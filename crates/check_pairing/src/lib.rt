@@ -1,5 +1,7 @@
 // Which timers or outputs are paired with a state or with one above it: a word a state, number n the bit of weight
 // 2^(n-1). The pairs are looked at once, and each state once, however deep it is.
+#![tactic(auto)]
+
 ghost use Rattle.std.specs.Prelude.{◌≡◌, ◌||◌, ℕ, ◌<◌, ◌≤◌, length, get_or, set};
 ghost use Rattle.std.specs.Int.Bits.{bit_or};
 ghost use Rattle.meaning.specs.Tables.{Tables, state_count, super_state};

@@ -1,5 +1,7 @@
 // The rules that rows of a chart's tables are held to, one row a call, for any tables at all: document 01's refusals
 // 4 to 7.
+#![tactic(auto)]
+
 ghost use Rattle.std.specs.Prelude.{◌≡◌};
 ghost use Rattle.meaning.specs.Tables.{Tables};
 ghost use Rattle.meaning.specs.Check.{preset_passes, pair_after, pair_passes, below, move_passes};

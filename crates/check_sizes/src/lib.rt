@@ -1,5 +1,7 @@
 // The sizes that a chart's tables are held to, for any tables at all: document 01's refusals 1, SIZE, and 11,
 // FLIP-FLOPS.
+#![tactic(auto)]
+
 ghost use Rattle.std.specs.Prelude.{◌≡◌, length, ◌≤◌};
 ghost use Rattle.meaning.specs.Check.{size_passes, flip_flop_passes};
 ghost use Rattle.tables.specs.Given.{tables_of};

@@ -1,4 +1,6 @@
 // The check of a chart's tables: document 01's refusals 1 to 11, "in the order of checking".
+#![tactic(auto)]
+
 ghost use Rattle.std.specs.Prelude.{◌≡◌, [], ◌∷◌, false, ◌/◌, ◌≤◌, length};
 ghost use Rattle.meaning.specs.Tables.{Tables, state_count, move_count, timer_count};
 ghost use Rattle.meaning.specs.Check.{verdict_of};
@@ -107,7 +109,7 @@ fn judge_overlap(states: &[u16], moves: &[i16], needs: &[u64]) -> Verdict
 // ---- the row checks
 
 // The checks whose rows are looked at one by one and need nothing of the checks before them.
-#[derive(Drop)]
+#[derive(Clone, Copy)]
 pub enum Rule {
     Hierarchy,
     Initial,

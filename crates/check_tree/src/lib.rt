@@ -1,5 +1,7 @@
 // The rules of the hierarchy, one state a call, for any tables at all: document 01's refusals 2, HIERARCHY, and 3,
 // INITIAL; and of 10, OVERLAP, what it asks of two sources.
+#![tactic(auto)]
+
 ghost use Rattle.std.specs.Prelude.{◌≡◌, cond, ◌||◌, eqb, ltb};
 ghost use Rattle.meaning.specs.Tables.{Tables, super_state};
 ghost use Rattle.meaning.specs.Hierarchy.{at_or_above};

@@ -1,5 +1,7 @@
 // The check of the tables with a witness for an OVERLAP, so that a reviewer sees why: the earlier of the two moves, and
 // a state and a setting in which both are enabled.
+#![tactic(auto)]
+
 ghost use Rattle.std.specs.Prelude.{◌≡◌, ℕ, ◌<◌, ◌≤◌, ◌/◌, max, length};
 ghost use Rattle.meaning.specs.Tables.{Tables, timer_count, move_count};
 ghost use Rattle.meaning.specs.Check.{earlier, verdict};
@@ -16,7 +18,7 @@ use tables::Chart;
 
 // The verdict; and for an OVERLAP the earlier move, a state in which both are enabled, what must be on for that, and
 // what must be off. Without one these are 0 and nothing.
-#[derive(Drop)]
+#[derive(Clone, Copy)]
 pub struct Witness {
     pub verdict: Verdict,
     pub earlier: usize,

@@ -1,11 +1,13 @@
 // A bare field taken whole: its number, as far as the digits go that cannot take it beyond its type, and what ends it.
+#![tactic(auto)]
+
 ghost use Rattle.std.specs.Prelude.{◌≡◌, drop};
 ghost use Rattle.csv_bare.specs.Bare.{digits_from, minus_from, bare_from, end_from};
 
 use csv_cursor::{COMMA, CR, LF};
 
 // What a run of bytes that hold a number comes to: the place after them, and the number.
-#[derive(Drop)]
+#[derive(Clone, Copy)]
 pub struct BareNumber {
     pub end: usize,
     pub value: u64,

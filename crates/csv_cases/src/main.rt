@@ -1,5 +1,7 @@
 // Every way to FIELD, and what passes, as document 01 says. A line of standard input is a file: the first letter says
 // which, / stands for LF, | for CR, @ for NUL and {}~ for a byte order mark. Each is read whole and a byte at a time.
+#![tactic(auto)]
+
 use csv_cursor::Reader;
 use csv_records::RecordsAnswer;
 use libc::{STDIN_FILENO, STDOUT_FILENO};

@@ -1,4 +1,6 @@
 // The numbers that the reader of records stores, each in the type of its table, and how many of them a table has.
+#![tactic(auto)]
+
 ghost use Rattle.std.specs.Prelude.{◌≡◌, map, ◌*◌, min};
 ghost use Rattle.std.proofs.lemmas.List.Edits.{sets};
 ghost use Rattle.meaning.specs.Tables.{move_row};

@@ -1,5 +1,7 @@
 // Where a reader of records stands in its file, and what ends a field and a record: which byte, whether it is in its
 // place, and the reader after it.
+#![tactic(auto)]
+
 ghost use Rattle.std.specs.Prelude.{◌≡◌, ◌-◌};
 ghost use Rattle.csv_cursor.specs.Passing.{count_up, fresh_reader, reader_with, bad, ends, separator_fits, passed};
 
@@ -10,7 +12,7 @@ pub const LF: u8 = 10;
 pub const CR: u8 = 13;
 
 // The whole state of the reader of one file.
-#[derive(Drop)]
+#[derive(Clone, Copy)]
 pub struct Reader {
     // the largest number of the fields' type, and the size of its least
     pub most: u64,

@@ -1,10 +1,12 @@
 // A field of a record, byte after byte: "a decimal of its type (no +, -0 or leading zero)", bare or quoted.
+#![tactic(auto)]
+
 ghost use Rattle.std.specs.Prelude.{◌≡◌, true, false, cond};
 ghost use Rattle.csv_field.specs.Field.{digit_added, field_begun, number_after, phase_after};
 
 // Where the reader stands in its field. Number and Closed hold the sign and the size; in Minus and Number the first
 // bool says that a quote is open.
-#[derive(Drop)]
+#[derive(Clone, Copy)]
 pub enum FieldPhase {
     // nothing of the record has come
     Fresh,

@@ -29,7 +29,7 @@ use Rattle.csv_records.specs.Files.{Read, Calls, read_frame, read_states, read_m
 use Rattle.csv_file.specs.declared.File.{File}
 use Rattle.csv_file.specs.declared.File.TheVariants.{Frame, States, Moves, Presets, TimerPairs, OutputPairs, Scans}
 use Rattle.csv_file.specs.declared.FileRead.TheVariants as A
-use Rattle.csv_file.specs.Reads.{fieldCheck, RecordsRead, columnFor, rowFor, readerFor, FilePassed}
+use Rattle.csv_file.specs.Reads.{field_check, RecordsRead, column_for, row_for, reader_for, FilePassed}
 
 -- ---- how many numbers a file has
 
@@ -113,7 +113,7 @@ all_count n (x ∷ xs) h =
 -- ---- a pass
 
 -- the reader of a file tells the answer of its check
-reads_file : (f : File) (bs out : List ℕ) (a : RecordsAnswer) (left : List ℕ) → length bs < most64 → Calls (readerFor f) bs out a left → Read (columnFor f) (fieldCheck f bs) bs out a left
+reads_file : (f : File) (bs out : List ℕ) (a : RecordsAnswer) (left : List ℕ) → length bs < most64 → Calls (reader_for f) bs out a left → Read (column_for f) (field_check f bs) bs out a left
 reads_file Frame bs out a left h c = read_frame bs out a left c
 reads_file States bs out a left h c = read_states bs (omega (arith, records_few bs)) out a left c
 reads_file Moves bs out a left h c = read_moves bs (omega (arith, records_few bs)) out a left c
@@ -123,10 +123,10 @@ reads_file OutputPairs bs out a left h c = read_pairs bs (omega (arith, records_
 reads_file Scans bs out a left h c = read_scans bs out a left c
 
 abbrev AllPass : File → List ℕ → Type 0
-AllPass f bs = (j : ℕ) → j < length (records bs) → record_passes (columnFor f) (rowFor f) (get_or (records bs) j []) ≡ true
+AllPass f bs = (j : ℕ) → j < length (records bs) → record_passes (column_for f) (row_for f) (get_or (records bs) j []) ≡ true
 
 -- where it counts records, each passes
-passes_file : (f : File) (bs : List ℕ) (n : ℕ) → answer_of (at_end (feed_all (readerFor f) bs)) ≡ Rows n → AllPass f bs
+passes_file : (f : File) (bs : List ℕ) (n : ℕ) → answer_of (at_end (feed_all (reader_for f) bs)) ≡ Rows n → AllPass f bs
 passes_file Frame bs n e = read_passing (unsigned 32) 2 1 1 (omega arith) (omega arith) (omega arith) bs n e
 passes_file States bs n e = read_passing (unsigned 16) 1 0 most64 (omega arith) (omega arith) (omega arith) bs n e
 passes_file Moves bs n e = read_passing signed16 10 0 most64 (omega arith) (omega arith) (omega arith) bs n e
@@ -135,9 +135,9 @@ passes_file TimerPairs bs n e = read_passing (unsigned 16) 1 0 most64 (omega ari
 passes_file OutputPairs bs n e = read_passing (unsigned 16) 1 0 most64 (omega arith) (omega arith) (omega arith) bs n e
 passes_file Scans bs n e = read_passing (unsigned 64) 0 0 4096 (omega arith) (omega arith) (omega arith) bs n e
 
-numbers_count : (f : File) (bs : List ℕ) → AllPass f bs → length (numbers bs) ≡ length (records bs) * rowFor f
+numbers_count : (f : File) (bs : List ℕ) → AllPass f bs → length (numbers bs) ≡ length (records bs) * row_for f
 unfolding numbers record_passes
-numbers_count f bs h = all_count (rowFor f) (records bs) (λ j z. eqb-true (length (fields (get_or (records bs) j []))) (rowFor f) (and_l (eqb (length (fields (get_or (records bs) j []))) (rowFor f)) (all (decimal_fits (columnFor f)) (fields (get_or (records bs) j []))) (h j z)))
+numbers_count f bs h = all_count (row_for f) (records bs) (λ j z. eqb-true (length (fields (get_or (records bs) j []))) (row_for f) (and_l (eqb (length (fields (get_or (records bs) j []))) (row_for f)) (all (decimal_fits (column_for f)) (fields (get_or (records bs) j []))) (h j z)))
 
 -- what a check's answer is in terms of its verdict
 answered_rows : (k : Check) (m n : ℕ) → answered k m ≡ Rows n → (verdict_of (k ∷ []) ≡ G.Accepted) × (m ≡ n)
@@ -154,38 +154,38 @@ answered_refused k m r e = elim (which (eqb (first_failing k) k.rows)) [
   | inr f ↦ (let z : Refused (k.refusal (first_failing k)) ≡ Refused r = rw f at e in rw (verdict_of, f) (cc))
 ]
 
-pub calls_pass : (f : File) (bs out : List ℕ) (a : RecordsAnswer) (left : List ℕ) → length bs < most64 → Calls (readerFor f) bs out a left → FilePassed f bs out a left
+pub calls_pass : (f : File) (bs out : List ℕ) (a : RecordsAnswer) (left : List ℕ) → length bs < most64 → Calls (reader_for f) bs out a left → FilePassed f bs out a left
 calls_pass f bs out a left h c =
     let r = reads_file f bs out a left h c in
-    let e : a ≡ answer_of (at_end (feed_all (readerFor f) bs)) = c.finished.answer ∙ ap (λ (s : Reader). answer_of (at_end s)) c.fed.state in
+    let e : a ≡ answer_of (at_end (feed_all (reader_for f) bs)) = c.finished.answer ∙ ap (λ (s : Reader). answer_of (at_end s)) c.fed.state in
     record {
       read = r;
-      count = λ n g. numbers_count f bs (passes_file f bs n (sym e ∙ g)) ∙ ap (λ (m : ℕ). m * rowFor f) (answered_rows (fieldCheck f bs) (length (records bs)) n (sym r.answer ∙ g)).1;
+      count = λ n g. numbers_count f bs (passes_file f bs n (sym e ∙ g)) ∙ ap (λ (m : ℕ). m * row_for f) (answered_rows (field_check f bs) (length (records bs)) n (sym r.answer ∙ g)).1;
     }
 
 -- ---- the call
 
 module _ (f : File) (bs x y : List ℕ) where
   -- no more numbers than a count holds
-  pub count_few : (n : ℕ) → FilePassed f bs x (Rows n) y → n * rowFor f ≤ suc (length bs)
+  pub count_few : (n : ℕ) → FilePassed f bs x (Rows n) y → n * row_for f ≤ suc (length bs)
   count_few n p = omega (arith, p.count n refl, numbers_few bs)
 
   pub read_refused : (r : Refusal) (out left : List ℕ) → FilePassed f bs x (Refused r) y → left ≡ out → RecordsRead f bs out (A.Refused r) left
-  read_refused r out left p k = let v = answered_refused (fieldCheck f bs) (length (records bs)) r (sym p.read.answer) in record { answer = rw v; slice = rw (v, k) }
+  read_refused r out left p k = let v = answered_refused (field_check f bs) (length (records bs)) r (sym p.read.answer) in record { answer = rw v; slice = rw (v, k) }
 
   -- k fields a record
-  pub read_cramped : (n k : ℕ) (out left : List ℕ) → FilePassed f bs x (Rows n) y → k ≡ rowFor f → length out < n * k → left ≡ out → RecordsRead f bs out (A.Refused (R.Room (n * k))) left
+  pub read_cramped : (n k : ℕ) (out left : List ℕ) → FilePassed f bs x (Rows n) y → k ≡ row_for f → length out < n * k → left ≡ out → RecordsRead f bs out (A.Refused (R.Room (n * k))) left
   read_cramped n k out left p e h g =
-      let v = (answered_rows (fieldCheck f bs) (length (records bs)) n (sym p.read.answer)).0 in
+      let v = (answered_rows (field_check f bs) (length (records bs)) n (sym p.read.answer)).0 in
       let m : length (numbers bs) ≡ n * k = p.count n refl ∙ ap (λ (j : ℕ). n * j) (sym e) in
       let t : leb (length (numbers bs)) (length out) ≡ false = lt-leb (length (numbers bs)) (length out) (omega (arith, m)) in
       record { answer = rw (v, t, m); slice = rw (v, t, g) }
 
-  pub read_passed : (n : ℕ) (out : List ℕ) (a : RecordsAnswer) (left : List ℕ) → FilePassed f bs x (Rows n) y → n * rowFor f ≤ length out → FilePassed f bs out a left
-      → RecordsRead f bs out (A.Numbers n (n * rowFor f)) left
+  pub read_passed : (n : ℕ) (out : List ℕ) (a : RecordsAnswer) (left : List ℕ) → FilePassed f bs x (Rows n) y → n * row_for f ≤ length out → FilePassed f bs out a left
+      → RecordsRead f bs out (A.Numbers n (n * row_for f)) left
   unfolding overlaid
   read_passed n out a left p h q =
-      let w = answered_rows (fieldCheck f bs) (length (records bs)) n (sym p.read.answer) in
+      let w = answered_rows (field_check f bs) (length (records bs)) n (sym p.read.answer) in
       let t : leb (length (numbers bs)) (length out) ≡ true = le-leb (length (numbers bs)) (length out) (omega (arith, p.count n refl)) in
       let l : length (map stored_number (numbers bs)) ≡ length (numbers bs) = length-map (numbers bs) stored_number in
       let e : left ≡ sets out 0 (map stored_number (numbers bs)) = q.read.stores n (q.read.answer ∙ sym p.read.answer) in

@@ -1,4 +1,6 @@
 // One of the seven files as a whole: its numbers from the front of a slice, or why it is refused.
+#![tactic(auto)]
+
 ghost use Rattle.std.specs.Prelude.{◌≡◌};
 ghost use Rattle.csv_file.specs.Reads.{readerFor, rowFor, FilePassed, RecordsRead};
 
@@ -7,7 +9,7 @@ use meaning::Refusal;
 use tables::Chart;
 
 // "file by file in the order of the program section"
-#[derive(Drop)]
+#[derive(Clone, Copy)]
 pub enum File {
     Frame,
     States,
@@ -19,7 +21,7 @@ pub enum File {
 }
 
 // How many records the file has and how many numbers they are, or why none was written.
-#[derive(Drop)]
+#[derive(Clone, Copy)]
 pub enum FileRead {
     Numbers { records: usize, numbers: usize },
     Refused(Refusal),

@@ -1,6 +1,8 @@
 // A reader of tables from RFC 4180 records, byte after byte: a file of any length goes through a buffer of fixed size.
 // FIELD (16): "record of wrong field count, or a field that isn't a decimal of its type (no +, -0 or leading zero)".
 // That it tells what document 01 says of a file are theorems alone (specs/Files.antt).
+#![tactic(auto)]
+
 ghost use Rattle.std.specs.Prelude.{◌≡◌, false, ◌&&◌, eqb};
 ghost use Rattle.csv_value.specs.Decimals.{returned};
 ghost use Rattle.csv_records.specs.Automaton.{answer_of, FieldEnded, FedByte, Fed, Finished};
@@ -9,7 +11,7 @@ ghost use Rattle.csv_records.specs.Bare.{ready, Went, WentOn};
 use csv_cursor::{LF, Reader};
 
 // How many records the file has, or why it is refused.
-#[derive(Drop)]
+#[derive(Clone, Copy)]
 pub enum RecordsAnswer {
     Rows(usize),
     Refused(meaning::Refusal),
@@ -75,7 +77,7 @@ fn is_ready(r: Reader) -> bool
 }
 
 // A place among the bytes, and the reader there.
-#[derive(Drop)]
+#[derive(Clone, Copy)]
 struct Stand {
     next: usize,
     reader: Reader,

@@ -1,5 +1,7 @@
 // What the readers of the seven files answered: FIELD of the first that has it, how many numbers of each table stand
 // where they were stored, and the chart's frame.
+#![tactic(auto)]
+
 ghost use Rattle.std.specs.Prelude.{◌≡◌};
 ghost use Rattle.csv_tables.specs.Told.{rows_of, later, field_verdict, Counted, chart_from};
 
@@ -8,7 +10,7 @@ use meaning::Verdict;
 use tables::Chart;
 
 // What the reader of each file answered.
-#[derive(Drop)]
+#[derive(Clone, Copy)]
 pub struct Answers {
     pub frame: RecordsAnswer,
     pub states: RecordsAnswer,
@@ -54,7 +56,7 @@ pub fn fields_pass(a: Answers) -> Verdict
 }
 
 // How many numbers of each table there are, or were kept.
-#[derive(Drop)]
+#[derive(Clone, Copy)]
 pub struct Counts {
     pub states: usize,
     pub moves: usize,

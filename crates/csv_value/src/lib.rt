@@ -1,11 +1,13 @@
 // What a field is that ends, and how its number is stored; and where in a record its reader stands.
+#![tactic(auto)]
+
 ghost use Rattle.std.specs.Prelude.{◌≡◌, true, false};
 ghost use Rattle.csv_value.specs.Decimals.{encoded, decimal_of, returned, untouched, begins, failed, signed_of};
 
 use csv_field::FieldPhase;
 
 // What a field is that ends.
-#[derive(Drop)]
+#[derive(Clone, Copy)]
 pub enum Decimal {
     Is(u64),
     IsNot,

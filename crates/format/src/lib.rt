@@ -1,15 +1,16 @@
 // Words, texts, records and what the program prints: definitions, in specs/. Here the declared types that they speak
 // of.
+#![tactic(auto)]
 
 // What a writer of text answers: how many bytes it wrote, from the front, or why it wrote none.
-#[derive(Drop)]
+#[derive(Clone, Copy)]
 pub enum Written {
     Wrote(usize),
     Refused(meaning::Refusal),
 }
 
 // What a word stands for.
-#[derive(Drop)]
+#[derive(Clone, Copy)]
 pub enum Decoded {
     Known(meaning::Operator),
     Unknown,
@@ -17,7 +18,7 @@ pub enum Decoded {
 
 // Where in a rung the reader is: between two rungs; in a body, after OR( or inside a bracket; after a store; after a
 // timer rung's ST Tn.IN, its time or its ST Tn.PT; or after what no list has.
-#[derive(Drop)]
+#[derive(Clone, Copy)]
 pub enum Phase {
     Between,
     Body,
@@ -31,7 +32,7 @@ pub enum Phase {
 }
 
 // What the reader knows: the timer rungs that are complete, the blocks that there must be, and those that there may be.
-#[derive(Drop)]
+#[derive(Clone, Copy)]
 pub struct Reading {
     pub phase: Phase,
     pub timers: u32,
@@ -40,7 +41,7 @@ pub struct Reading {
 }
 
 // What a line of a text is.
-#[derive(Drop)]
+#[derive(Clone, Copy)]
 pub enum Line {
     Header,
     Var,
@@ -53,7 +54,7 @@ pub enum Line {
 
 // Where in a text the reader is: before its first line, after it, after VAR, after an instruction or END_VAR, after
 // END_PROGRAM, or after what no text has.
-#[derive(Drop)]
+#[derive(Clone, Copy)]
 pub enum Stage {
     Title,
     Headed,
@@ -64,7 +65,7 @@ pub enum Stage {
 }
 
 // What the reader of a text knows: the blocks declared so far and, from the first instruction on, the reading.
-#[derive(Drop)]
+#[derive(Clone, Copy)]
 pub struct Page {
     pub stage: Stage,
     pub blocks: u32,

@@ -1,4 +1,6 @@
 // What can follow the instructions that were read, and what one more does to that.
+#![tactic(auto)]
+
 ghost use Rattle.std.specs.Prelude.{◌≡◌};
 ghost use Rattle.format.specs.Automata.Phases as Phases;
 

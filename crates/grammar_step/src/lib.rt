@@ -1,4 +1,6 @@
 // What a reader knows after one instruction more, or one word more.
+#![tactic(auto)]
+
 ghost use Rattle.std.specs.Prelude.{◌≡◌, suc, eqb};
 ghost use Rattle.format.specs.Decode.{decoded};
 ghost use Rattle.format.specs.Automata.Phases as Phases;

@@ -1,8 +1,10 @@
 // Which lists of words are accepted, and where the others go wrong.
+#![tactic(auto)]
+
 ghost use Rattle.grammar_words.specs.Pass.{WordsPassed};
 
 // What the pass over a list of words answers: the blocks that its program has, or the place of TEXT.
-#[derive(Drop)]
+#[derive(Clone, Copy)]
 pub enum WordsEnd {
     Accepted(u32),
     Refused(usize),

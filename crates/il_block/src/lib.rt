@@ -1,4 +1,6 @@
 // One timer block by value: its call, its Q as a bit of a word, and whether it is in its time.
+#![tactic(auto)]
+
 ghost use Rattle.std.specs.Prelude.{◌≡◌, ◌&&◌};
 ghost use Rattle.meaning.specs.Scan.{elapsed, ton};
 ghost use Rattle.il_values.specs.Value.{with_bit};

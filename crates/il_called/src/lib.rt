@@ -1,4 +1,6 @@
 // Which block a word calls.
+#![tactic(auto)]
+
 ghost use Rattle.std.specs.Prelude.{◌≡◌};
 ghost use Rattle.format.specs.Decode.{decoded};
 ghost use Rattle.il_called.specs.Due.{block_of, called_by, due};

@@ -1,4 +1,6 @@
 // The checks before a program is run, in their order.
+#![tactic(auto)]
+
 ghost use Rattle.std.specs.Prelude.{◌≡◌, Bool, ◌↔◌, eqb};
 ghost use Rattle.il_check.specs.Judged.{StatePasses, JudgedBy, rest_of, is_accepted};
 

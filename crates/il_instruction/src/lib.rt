@@ -1,4 +1,6 @@
 // One instruction's effect: on what a scan keeps by value, and on the flip-flop bytes.
+#![tactic(auto)]
+
 ghost use Rattle.std.specs.Prelude.{◌≡◌, ◌&&◌, ◌-◌};
 ghost use Rattle.format.specs.Decode.{decoded};
 ghost use Rattle.il_values.specs.Value.{with_bit};
@@ -11,7 +13,7 @@ use meaning::{Operand, Operator};
 
 // What a scan keeps by value: the result, what a bracket has deferred, the time loaded last, the IN and PT stored
 // last, the blocks' Q as a word and the output word.
-#[derive(Drop)]
+#[derive(Clone, Copy)]
 pub struct Registers {
     pub result: bool,
     pub deferred: bool,

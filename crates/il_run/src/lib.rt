@@ -1,5 +1,7 @@
 // The run of a program, given as instruction words, over a lent controller: flip-flop bytes and one row of timer
 // blocks. Every function over a row is thin; what they do to a block, a word or a byte is done by others, by value.
+#![tactic(auto)]
+
 ghost use Rattle.std.specs.Prelude.{◌≡◌, Bool, ◌<◌, length, set, get_or};
 ghost use Rattle.meaning.specs.Scan.{blank};
 ghost use Rattle.il_block.specs.Called.{called_with};
@@ -80,7 +82,7 @@ pub fn scan(words: &[u32], step: u32, x: u64, flip_flops: &mut [u8], blocks: &mu
 }
 
 // What a scan over a row of 32 leaves by value: the blocks and the output word.
-#[derive(Drop)]
+#[derive(Clone, Copy)]
 pub struct ArrayScanned {
     pub blocks: [Block; 32],
     pub outputs: u64,
@@ -132,7 +134,7 @@ pub fn run(
 }
 
 // A scan answers its output word.
-#[derive(Drop)]
+#[derive(Clone, Copy)]
 pub enum Scanned {
     Outputs(u64),
     Refused(Refusal),

@@ -1,4 +1,6 @@
 // A program's words run over a lent controller: flip-flop bytes and timer blocks.
+#![tactic(auto)]
+
 ghost use Rattle.std.specs.Prelude.{◌≡◌, length, drop};
 ghost use Rattle.il_scan.specs.Advance.{StopKnown};
 ghost use Rattle.il_scan.specs.Run.{advanced, resumed, fresh_registers};
@@ -6,7 +8,7 @@ ghost use Rattle.il_scan.specs.Run.{advanced, resumed, fresh_registers};
 use il_instruction::Registers;
 
 // Where a scan stands: the next word; whether a CAL is due, of which block, from 0, with which IN and PT.
-#[derive(Drop)]
+#[derive(Clone, Copy)]
 pub struct Stop {
     pub at: usize,
     pub due: bool,

@@ -1,4 +1,6 @@
 // What the controller of a list of words is lent: flip-flop bytes and blocks.
+#![tactic(auto)]
+
 ghost use Rattle.std.specs.Prelude.{◌≡◌};
 ghost use Rattle.meaning.specs.Programs.{carried, bytes_for};
 ghost use Rattle.il_sizes.specs.Bytes.{bytes_in, bytes_named};
@@ -96,7 +98,7 @@ pub fn flip_flop_bytes(words: &[u32]) -> usize
 }
 
 // What a program's controller is lent: flip-flop bytes and blocks.
-#[derive(Drop)]
+#[derive(Clone, Copy)]
 pub enum Sizes {
     Controller { flip_flops: usize, blocks: usize },
     Refused(Refusal),

@@ -1,4 +1,6 @@
 // ST, S and R on the lent flip-flop bytes.
+#![tactic(auto)]
+
 ghost use Rattle.std.specs.Prelude.{◌≡◌, cond, set};
 ghost use Rattle.il_stores.specs.Acted.{flip_flop_put, acted};
 

@@ -1,4 +1,6 @@
 // The time of each block's rung, and whether bytes are bits.
+#![tactic(auto)]
+
 ghost use Rattle.std.specs.Prelude.{◌≡◌, Bool, ◌↔◌};
 ghost use Rattle.il_times.specs.Validity.{AreBits};
 ghost use Rattle.il_times.specs.Sizes.{time_after, time_in, rungs_in, no_rungs};

@@ -1,4 +1,6 @@
 // What a test reads: a flip-flop's byte, or an input or Q as a bit of a word; and a bit put into a word.
+#![tactic(auto)]
+
 ghost use Rattle.std.specs.Prelude.{◌≡◌, ◌-◌};
 ghost use Rattle.meaning.specs.Literals.{input_on};
 ghost use Rattle.meaning.specs.Scan.{flip_flop_on};

@@ -1,5 +1,7 @@
 // The layout of a chart's flip-flops: which group each super-state has, and which code each sub-state. One pass over
 // the states gives each, so that the whole is linear in their number.
+#![tactic(auto)]
+
 ghost use Rattle.std.specs.Prelude.{◌≡◌, ◌+◌, ◌/◌, ◌<◌, ◌≤◌, length};
 ghost use Rattle.meaning.specs.Rows.{least, count};
 ghost use Rattle.meaning.specs.Tables.{Tables, state_count};
@@ -11,7 +13,7 @@ ghost use Rattle.layout.specs.Laid.{laid_states, given_code, row, tally, LaidOut
 use tables::Chart;
 
 // For each state the first flip-flop and the width of its group, and its code; and how many flip-flops there are.
-#[derive(Drop)]
+#[derive(Clone, Copy)]
 pub struct Layout {
     pub first: [u16; 256],
     pub width: [u8; 256],

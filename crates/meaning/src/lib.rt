@@ -1,10 +1,12 @@
 // The declared types that the definitions in specs/ and the promises of the calls speak of, and a refusal's number
 // and place.
+#![tactic(auto)]
+
 ghost use Rattle.std.specs.Prelude.{◌≡◌};
 ghost use Rattle.meaning.specs.Refusals.{number_of, place_of};
 
 // Why a call refuses, in the order of document 01's table; the number is the place, where it is not always 0.
-#[derive(Drop)]
+#[derive(Clone, Copy)]
 pub enum Refusal {
     Size,
     Hierarchy(usize),
@@ -25,21 +27,21 @@ pub enum Refusal {
 }
 
 // What the check of the tables answers.
-#[derive(Drop)]
+#[derive(Clone, Copy)]
 pub enum Verdict {
     Accepted,
     Refused(Refusal),
 }
 
 // What a run answers: how many scans it did, or why none.
-#[derive(Drop)]
+#[derive(Clone, Copy)]
 pub enum Ran {
     Done(usize),
     Refused(Refusal),
 }
 
 // What a literal of some size stands for: inputs and timers count from 1.
-#[derive(Drop)]
+#[derive(Clone, Copy)]
 pub enum Kind {
     Unused,
     Input(u16),
@@ -48,7 +50,7 @@ pub enum Kind {
 }
 
 // What an instruction acts on: %MXn, %IXn, %QXn, Tn.Q, Tn.IN, Tn.PT, Tn, FALSE, TRUE.
-#[derive(Drop)]
+#[derive(Clone, Copy)]
 pub enum Operand {
     Mx(u16),
     Ix(u16),
@@ -62,7 +64,7 @@ pub enum Operand {
 }
 
 // An instruction: OR( and ) carry no operand, LD of a time carries its ms.
-#[derive(Drop)]
+#[derive(Clone, Copy)]
 pub enum Operator {
     Ld(Operand),
     Ldn(Operand),
@@ -79,7 +81,7 @@ pub enum Operator {
 
 // A timer block: IN (`input`, since `in` is a word of the language), PT, ET, Q and the IN of its last call.
 #[repr(C)]
-#[derive(Drop)]
+#[derive(Clone, Copy)]
 pub struct Block {
     pub input: bool,
     pub pt: u32,

@@ -1,5 +1,7 @@
 // What the program prints beside the text: "a line a scan: scan from 1, leaf, outputs as a number", or "On refusal
 // only "REFUSED,number,place"".
+#![tactic(auto)]
+
 ghost use Rattle.std.specs.Prelude.{◌≡◌, ◌++◌, length};
 ghost use Rattle.format.specs.Printed.{refusal_line};
 ghost use Rattle.write_lines.specs.Put.{BytesPut};
@@ -8,7 +10,7 @@ ghost use Rattle.print_lines.specs.Results.{end_of, scan_line, scan_lines_from};
 use meaning::{Refusal, Verdict};
 
 // How many bytes are printed, and why nothing else is.
-#[derive(Drop)]
+#[derive(Clone, Copy)]
 pub struct Printed {
     pub length: usize,
     pub verdict: Verdict,

@@ -1,5 +1,7 @@
 // What the program prints with --needs: a table of the moves with what each needs on and off, for an OVERLAP the pair
 // and a setting, and the verdict.
+#![tactic(auto)]
+
 ghost use Rattle.std.specs.Prelude.{◌≡◌, true, cond, [], ◌∷◌};
 ghost use Rattle.meaning.specs.Tables.{Tables, most_inputs, most_timers};
 ghost use Rattle.meaning.specs.Literals.{input_on};
@@ -31,7 +33,7 @@ const LF: u8 = 10;
 // ---- a set by its names
 
 // Where the next name goes, and whether one was written before it.
-#[derive(Drop)]
+#[derive(Clone, Copy)]
 pub struct NameCursor {
     pub at: usize,
     pub some: bool,

@@ -1,4 +1,6 @@
 // What the program prints, from what the seven readers of records answered and stored.
+#![tactic(auto)]
+
 ghost use Rattle.std.specs.Prelude.{◌≡◌, ℕ, ◌≤◌, length, List};
 ghost use Rattle.meaning.specs.declared.Verdict.TheVariants.{Refused};
 ghost use Rattle.format.specs.Printed.{refusal_line};
@@ -15,7 +17,7 @@ use roundtrip_call::WrittenRun;
 use tables::Chart;
 
 // What the program is asked to print: the text and its run, or the table of what the moves need.
-#[derive(Drop)]
+#[derive(Clone, Copy)]
 pub enum PageKind {
     Text,
     Needs,

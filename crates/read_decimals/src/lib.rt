@@ -1,9 +1,11 @@
 // Whether bytes are a word, and the decimal between two words.
+#![tactic(auto)]
+
 ghost use Rattle.std.specs.Prelude.{[]};
 ghost use Rattle.read_decimals.specs.Forms.{SameWord, Spells};
 
 // The number that bytes spell, if they do.
-#[derive(Drop)]
+#[derive(Clone, Copy)]
 pub enum Number {
     Is(u32),
     Nothing,

@@ -1,5 +1,7 @@
 // Which line of a text some bytes are: document 01, "The written text". The first bytes choose which forms of a line
 // are tried; bytes are one line at most, so that the order of the tries has no effect.
+#![tactic(auto)]
+
 ghost use Rattle.std.specs.Prelude.{◌≡◌, get_or};
 ghost use Rattle.format.specs.Automata.Lines.{said};
 ghost use Rattle.read_line.specs.Forms.{Puts, Stores, Others};

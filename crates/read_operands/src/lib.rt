@@ -1,4 +1,6 @@
 // The operand of a test that bytes name.
+#![tactic(auto)]
+
 ghost use Rattle.std.specs.Prelude.{[]};
 ghost use Rattle.meaning.specs.Programs.{testable};
 ghost use Rattle.read_operands.specs.Names.{Names};
@@ -7,7 +9,7 @@ use meaning::Operand;
 use read_decimals::Number;
 
 // The operand that bytes name, if they do.
-#[derive(Drop)]
+#[derive(Clone, Copy)]
 pub enum Named {
     Is(Operand),
     Nothing,

@@ -1,5 +1,7 @@
 // Lines read one by one: "PROGRAM CHART; if there are timers, VAR, a line "T1 : TON;" each, END_VAR; the rungs;
 // END_PROGRAM".
+#![tactic(auto)]
+
 ghost use Rattle.std.specs.Prelude.{◌≡◌, suc, ◌&&◌, ◌||◌, eqb, leb};
 ghost use Rattle.format.specs.declared.Line.{Line};
 ghost use Rattle.format.specs.declared.Stage.{Stage};

@@ -1,4 +1,6 @@
 // One pass over a text, line after line.
+#![tactic(auto)]
+
 ghost use Rattle.std.specs.Prelude.{◌≡◌, ◌+◌, ◌%◌, ◌≤◌, length, set};
 ghost use Rattle.format.specs.Words.{word};
 ghost use Rattle.read_pass.specs.Passes.{LineEnd, words_counted, placed, Pass};
@@ -49,7 +51,7 @@ fn put_line(out: &mut [u32], n: usize, l: Line) -> usize
 }
 
 // What a pass comes to: the words of a whole text, or the place of TEXT.
-#[derive(Drop)]
+#[derive(Clone, Copy)]
 pub enum PassEnd {
     Over(usize),
     Stopped(usize),

@@ -1,11 +1,13 @@
 // From a text to the words of its instructions.
+#![tactic(auto)]
+
 ghost use Rattle.read_text.specs.Reads.{TextRead};
 
 use meaning::Refusal;
 use read_pass::PassEnd;
 
 // What the reader answers: how many words it wrote, or why it wrote none.
-#[derive(Drop)]
+#[derive(Clone, Copy)]
 pub enum TextAnswer {
     Read(usize),
     Refused(Refusal),

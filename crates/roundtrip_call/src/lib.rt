@@ -1,5 +1,7 @@
 // A chart's text written, read back as words, and the words run from cleared memory: what is lent in the end comes
 // from the bytes that were written, and from nothing else.
+#![tactic(auto)]
+
 ghost use Rattle.std.specs.Prelude.{◌≡◌, ℕ, ◌≤◌, length};
 ghost use Rattle.meaning.specs.Tables.{Tables};
 ghost use Rattle.meaning.specs.Rules.{Rules};
@@ -14,7 +16,7 @@ use read_text::TextAnswer;
 use tables::Chart;
 
 // The lengths of the text and of its words, or why there are none.
-#[derive(Drop)]
+#[derive(Clone, Copy)]
 pub enum WrittenRun {
     Ran { text: usize, words: usize },
     Refused(Refusal),

@@ -1,4 +1,6 @@
 // The leaf that flip-flops show. The tables have passed the check; on other tables all of this is harmless.
+#![tactic(auto)]
+
 ghost use Rattle.std.specs.Prelude.{◌≡◌, ◌<◌, ◌≤◌};
 ghost use Rattle.meaning.specs.Tables.{Tables, state_count};
 ghost use Rattle.meaning.specs.Rules.{Rules};

@@ -1,5 +1,7 @@
 // The words of a chart's program run from cleared memory, one scan for each input word. The tables have passed the
 // check, and the words are theirs; on others all of this is harmless.
+#![tactic(auto)]
+
 ghost use Rattle.std.specs.Prelude.{◌≡◌, length, set};
 ghost use Rattle.meaning.specs.Tables.{Tables};
 ghost use Rattle.meaning.specs.Rules.{Rules};

@@ -1,5 +1,7 @@
 // What stands at a place of a slice, or 0; a store where the slice has the place; the shorter of two lengths; a number
 // put into a word.
+#![tactic(auto)]
+
 ghost use Rattle.std.specs.Prelude.{◌≡◌, min, get_or, set};
 ghost use Rattle.slices.specs.Numbers.{with_number};
 

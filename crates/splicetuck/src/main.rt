@@ -1,6 +1,8 @@
 // The program: reads the seven files of a folder, the one that its last argument names or else the one that it is
 // started in, and prints what the crate `print_text` makes of them: the text and its run, or with --needs what the
 // moves need. Every byte on standard output comes from there.
+#![tactic(auto)]
+
 mod message;
 
 use csv_cursor::Reader;

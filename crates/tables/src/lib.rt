@@ -1,4 +1,6 @@
 // What stands where in a chart's tables, for any tables at all: past the end of a table everything is 0.
+#![tactic(auto)]
+
 ghost use Rattle.std.specs.Prelude.{◌≡◌, ◌+◌, ◌*◌, get_or, replicate, nat_abs};
 ghost use Rattle.meaning.specs.Tables.{Tables, super_state, initial, pair_number, pair_state, cell, source, target, mark};
 ghost use Rattle.meaning.specs.Tables.{literal};
@@ -8,7 +10,7 @@ ghost use Rattle.meaning.specs.Literals.{kind_of, wanted};
 use meaning::Kind;
 
 // The frame of a chart: its scan step in ms, and how many inputs and outputs it has.
-#[derive(Drop)]
+#[derive(Clone, Copy)]
 pub struct Chart {
     pub step: u32,
     pub inputs: u32,

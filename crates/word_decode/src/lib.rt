@@ -1,4 +1,6 @@
 // Instructions from 32-bit words: "operator number times 134,217,728 plus operand".
+#![tactic(auto)]
+
 ghost use Rattle.std.specs.Prelude.{◌≡◌};
 ghost use Rattle.format.specs.Decode.{unpacked, decoded};
 

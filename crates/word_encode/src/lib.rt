@@ -1,4 +1,6 @@
 // 32-bit words of instructions: "operator number times 134,217,728 plus operand".
+#![tactic(auto)]
+
 ghost use Rattle.std.specs.Prelude.{◌≡◌, ◌+◌, ◌%◌, ◌<◌};
 ghost use Rattle.format.specs.Words.{operand_number, word};
 

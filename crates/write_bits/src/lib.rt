@@ -1,4 +1,6 @@
 // The lines of code bits and literals, one after the other: tests, or stores on the working copies.
+#![tactic(auto)]
+
 ghost use Rattle.std.specs.Prelude.{◌≡◌, [], ◌∷◌, ◌+◌, ◌<◌, ◌≤◌, length};
 ghost use Rattle.meaning.specs.Tables.{Tables, state_count};
 ghost use Rattle.meaning.specs.Hierarchy.{depth};
@@ -15,7 +17,7 @@ use tables::Chart;
 use write_operators::Way;
 
 // A place in the text, and how the next test is written there.
-#[derive(Drop)]
+#[derive(Clone, Copy)]
 pub struct Spot {
     pub at: usize,
     pub way: Way,

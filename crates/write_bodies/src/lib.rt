@@ -1,4 +1,6 @@
 // The bodies over a chart's pairs: "the OR of its pairs' states".
+#![tactic(auto)]
+
 ghost use Rattle.std.specs.Prelude.{ℕ, ◌+◌, ◌-◌, ◌<◌};
 ghost use Rattle.meaning.specs.Tables.{Tables, state_count};
 ghost use Rattle.meaning.specs.Programs.{chain_of, body_of};
@@ -159,7 +161,7 @@ fn run_end(pairs: &[u16], row: usize, n: usize) -> usize
 }
 
 // A place in the text, and the first row of a pair table that is not yet written.
-#[derive(Drop)]
+#[derive(Clone, Copy)]
 pub struct Cursor {
     pub at: usize,
     pub row: usize,

@@ -1,6 +1,8 @@
 // Bytes written one after the other into a lent slice. The place counts on past its end, up to the largest usize, so
 // that one generator measures (over an empty part) and writes. Some bytes are written as far as the slice reaches, a
 // part of a line where all of it has room.
+#![tactic(auto)]
+
 ghost use Rattle.std.specs.Prelude.{◌≡◌, [], ◌∷◌, ◌+◌, ◌≤◌, min, length};
 ghost use Rattle.std.proofs.lemmas.List.Edits.{sets};
 ghost use Rattle.format.specs.Text.{decimal};

@@ -1,10 +1,12 @@
 // How a test or store is written: its operator, and on which flip-flops it is.
+#![tactic(auto)]
+
 ghost use Rattle.std.specs.Prelude.{◌≡◌};
 ghost use Rattle.write_lines.specs.Fit.{PutIfRoom};
 ghost use Rattle.write_operators.specs.Ways.{operator_bytes, next, base_of};
 
 // How the next test is written: "LD or LDN, then AND or ANDN"; or as a store, S or R.
-#[derive(Drop)]
+#[derive(Clone, Copy)]
 pub enum Way {
     First,
     More,

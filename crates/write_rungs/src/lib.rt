@@ -1,5 +1,7 @@
 // The rungs of a chart's moves and flip-flops and the end of a timer's, and with them the four parts of a chart's text:
 // document 01, "The written text", 1 to 4.
+#![tactic(auto)]
+
 ghost use Rattle.std.specs.Prelude.{◌≡◌, ◌+◌, ◌-◌, ◌<◌};
 ghost use mathlib.Core.List.{flat_map};
 ghost use Rattle.meaning.specs.Tables.{Tables, state_count, move_count, preset, timer_count};

@@ -1,5 +1,7 @@
 // The lines of a text: operands, times, declarations, the first line and the last. They are written part by part, a
 // part that has no room not at all.
+#![tactic(auto)]
+
 ghost use Rattle.std.specs.Prelude.{◌≡◌, ◌+◌, ◌%◌, ◌≤◌};
 ghost use mathlib.Core.List.{◌++◌, flat_map};
 ghost use Rattle.format.specs.Text.{bytes, decimal, operand_text, operator_text, line, block_line, declarations};

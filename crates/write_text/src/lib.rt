@@ -1,4 +1,6 @@
 // The text of a chart, for any tables and any lent slice: what has no text is refused, in document 01's order.
+#![tactic(auto)]
+
 ghost use Rattle.meaning.specs.Tables.{Tables};
 ghost use Rattle.format.specs.Printed.{chart_text};
 ghost use Rattle.format.specs.TextWritten.{TextWritten};

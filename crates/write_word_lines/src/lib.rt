@@ -1,4 +1,6 @@
 // The lines of instruction words, by the operator and the operand that the numbers of a word say.
+#![tactic(auto)]
+
 ghost use Rattle.format.specs.Text.{operand_text, operator_text, line};
 ghost use Rattle.format.specs.Decode.{operand_of};
 ghost use Rattle.write_lines.specs.Fit.{PutIfRoom};

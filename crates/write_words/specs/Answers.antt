@@ -19,8 +19,8 @@ pub data WordsWritten (l out : List ℕ) (r : Written) (m : List ℕ) : Type 0 w
 
 -- ---- no second answer
 
-pub words-written-same : {l out : List ℕ} {r q : Written} {m n : List ℕ} → WordsWritten l out r m → WordsWritten l out q n → (r ≡ q) × (m ≡ n)
-words-written-same (WordsWritten.accepted p f e w) (WordsWritten.accepted s g d v) = text_written_same w (rw (words_same s p g f (d ∙ sym e)) at v)
-words-written-same (WordsWritten.accepted p f e w) (WordsWritten.refused k h q n) = absurd (h.refused (p, f, e))
-words-written-same (WordsWritten.refused k h r m) (WordsWritten.accepted s g d v) = absurd (h.refused (s, g, d))
-words-written-same {l} (WordsWritten.refused k h r m) (WordsWritten.refused j i q n) = let e = place_same AcceptedWords _ l k j h i in (cc, cc)
+pub words_written_same : {l out : List ℕ} {r q : Written} {m n : List ℕ} → WordsWritten l out r m → WordsWritten l out q n → (r ≡ q) × (m ≡ n)
+words_written_same (WordsWritten.accepted p f e w) (WordsWritten.accepted s g d v) = text_written_same w (rw (words_same s p g f (d ∙ sym e)) at v)
+words_written_same (WordsWritten.accepted p f e w) (WordsWritten.refused k h q n) = absurd (h.refused (p, f, e))
+words_written_same (WordsWritten.refused k h r m) (WordsWritten.accepted s g d v) = absurd (h.refused (s, g, d))
+words_written_same {l} (WordsWritten.refused k h r m) (WordsWritten.refused j i q n) = let e = place_same AcceptedWords _ l k j h i in (cc, cc)

@@ -1,4 +1,6 @@
 // The text of a list of instruction words.
+#![tactic(auto)]
+
 ghost use Rattle.format.specs.TextWritten.{TextWritten};
 ghost use Rattle.write_lines.specs.Fit.{PutIfRoom};
 ghost use Rattle.write_words.specs.Answers.{WordsWritten};

@@ -123,20 +123,26 @@ module _ (c : Tables) (R : Rules c) where
         i : ℕ
         i = chosen c (record { input = input_on x; expired = expired_by c (now ∷ ls) }) now
 
+    -- a step more that a timer ran
+    ticks : (x t k : ℕ) → timer_runs c t (active_leaf c (memory_after_step c x s)) ≡ true → k ≤ preset_steps c t → leb (k * c.scan_step) (timer_after c now (active_leaf c (memory_after_step c x s)) s.timers t) ≡ last_ran c t k (now ∷ ls)
+    unfolding last_ran timer_after
+    ticks x t zero e h = at_least_none _
+    ticks x t (suc k) e h = rw e (elim (which (timer_runs c t now)) [
+      | inl f ↦ rw f (grows c.scan_step (timer_value s.timers t) (preset_steps c t) k h ∙ r.timers t k f (omega arith))
+      | inr f ↦ rw f (never k)
+    ])
+
+    step_ticks : (x t k : ℕ) → timer_runs c t (active_leaf c (state_after_step c x s).memory) ≡ true → k ≤ preset_steps c t → leb (k * c.scan_step) (timer_value (state_after_step c x s).timers t) ≡ last_ran c t k (now ∷ ls)
+    unfolding state_after_step
+    step_ticks x t k e h = let q = runs_known t _ e in rw (timer_table (timer_after c now (active_leaf c (memory_after_step c x s)) s.timers) (timer_count c) t q.0 q.1) (ticks x t k e h)
+
     -- so it is after a step, with one leaf more before
     pub step_reads : (x : ℕ) → ReadsPast c (state_after_step c x s) (active_leaf c s.memory ∷ ls)
     step_reads x = record {
       valid = step_valid c R x s r.valid;
       memory = recalls (state_after_step c x s) (step_valid c R x s r.valid) (now ∷ ls) (λ a n e. step_stays c R s r.valid x a n e ∙ r.memory a n);
-      timers = (λ t k e h. let q = runs_known t _ e in unfold state_after_step in (rw (timer_table (timer_after c now (active_leaf c (memory_after_step c x s)) s.timers) (timer_count c) t q.0 q.1) (ticks t k e h)));
+      timers = step_ticks x;
     }
-      where
-        ticks : (t k : ℕ) → timer_runs c t (active_leaf c (memory_after_step c x s)) ≡ true → k ≤ preset_steps c t → leb (k * c.scan_step) (timer_after c now (active_leaf c (memory_after_step c x s)) s.timers t) ≡ last_ran c t k (now ∷ ls)
-        ticks t zero e h = unfold last_ran in (at_least_none _)
-        ticks t (suc k) e h = unfold last_ran timer_after in (rw e (elim (which (timer_runs c t now)) [
-          | inl f ↦ rw f (grows c.scan_step (timer_value s.timers t) (preset_steps c t) k h ∙ r.timers t k f (omega arith))
-          | inr f ↦ rw f (never k)
-        ]))
 
   -- from any such state on, a run gives what the reading gives
   pub reads : (xs : List ℕ) (s : State) (ls : List ℕ) → ReadsPast c s ls → trace c s xs ≡ map (seen_at_leaf c) (leaves_from c (active_leaf c s.memory) ls xs)

@@ -117,17 +117,20 @@ module _ (c : Tables) (R : Rules c) where
     moved_leads : Leads c (remembers_after c led (remembered m) (target c i))
     moved_leads = entered_leads c R led (remembered m) led_leads S.leads (target c i) (target_known i h)
 
+    -- a leaf has the entry 0, wherever a mark leads
+    below_zero : (j a : ℕ) → a < state_count c → is_leaf c a ≡ true → leads_below c j (remembered m) a ≡ 0
+    unfolding leads_below
+    below_zero zero a k e = initial_leaf c R a k e
+    below_zero (suc j) a k e = S.leaf_entries a k e
+
+    zero_at : (a : ℕ) → led a ≡ 0 → remembered m a ≡ 0 → above c a (target c i) ≡ false → remembers_after c led (remembered m) (target c i) a ≡ 0
+    unfolding remembers_after
+    zero_at a p q e = rw (e, p, q) (elim (which (reached c led (target c i) a)) [ inl f ↦ rw f | inr f ↦ rw f ])
+
     -- a move leaves such a memory
     pub moved_sound : SoundMemory c (memory_after_move c i m)
     unfolding memory_after_move
     moved_sound = table_sound _ moved_leads (λ a k e. zero_at a (below_zero (mark c i) a k e) (S.leaf_entries a k e) (leaf_above c R a (target c i) (target_known i h) e))
-      where
-        below_zero : (j a : ℕ) → a < state_count c → is_leaf c a ≡ true → leads_below c j (remembered m) a ≡ 0
-        below_zero zero a k e = unfold leads_below in (initial_leaf c R a k e)
-        below_zero (suc j) a k e = unfold leads_below in (S.leaf_entries a k e)
-
-        zero_at : (a : ℕ) → led a ≡ 0 → remembered m a ≡ 0 → above c a (target c i) ≡ false → remembers_after c led (remembered m) (target c i) a ≡ 0
-        zero_at a p q e = unfold remembers_after in (rw (e, p, q) (elim (which (reached c led (target c i) a)) [ inl f ↦ rw f | inr f ↦ rw f ]))
 
     -- the leaf after a move is where its mark leads from the target
     pub moved_leaf : active_leaf c (memory_after_move c i m) ≡ follow c (leads_below c (mark c i) (remembered m)) (target c i)

@@ -1,7 +1,7 @@
 -- The verdict in words: accepted exactly when every rule is kept, and each refusal given exactly when its rule is the first broken, at the least row.
 use Rattle.std.specs.Prelude.{◌≡◌, refl, ◌⊎◌, ◌↔◌, ℕ, suc, ◌<◌, Bool, true, false, not, eqb}
 use Rattle.std.proofs.Common.{sym, ap, ◌∙◌, inl, inr, arith, true≢false, eqb-true}
-use Rattle.std.proofs.Math.Logic.{Iff·trans}
+use Rattle.std.proofs.Math.Logic.Iff.{trans}
 use Rattle.std.proofs.Math.Decide.{ℕ_discrete, dec_le}
 use Rattle.std.proofs.lemmas.Bool.{false≢true, eqb-false, not-true, not-false}
 use mathlib.Core.List.{List, [], ◌∷◌, map, zip_with}
@@ -179,7 +179,7 @@ all_kept_tells c = ((λ g. search (g.0 0 (omega arith), g.1.1.1.1.1.1.1.1.1.1.0 
 -- accepted exactly when no rule is broken
 pub accepted_exactly : (c : Tables) → (verdict c ≡ Accepted) ↔ Rules c
 unfolding verdict
-accepted_exactly c = rw (verdict, ← same_checks c) (Iff·trans (accepted_of (ruled c) (told c)) (all_kept_tells c))
+accepted_exactly c = rw (verdict, ← same_checks c) (trans (accepted_of (ruled c) (told c)) (all_kept_tells c))
 
 -- from n on, each check's refusals have the next number, and the refusal of a row has that row for its place
 unfoldable pub NumberedFrom : ℕ → List Check → Type 0

@@ -1,0 +1,46 @@
+use native.Mathlib.Omega.{arith}
+use mathlib.Core.Path.{◌≡◌, ap, ap₂, sym, ◌∙◌}
+use mathlib.Core.Bool.{Bool, ◌&&◌}
+use Prim.Native.Nat.{ℕ, suc, ◌≤◌, ◌<◌}
+use lib.ListN.{length, get_or, take}
+use lib.Bits.{bit_and}
+use Rattle.meaning.specs.Tables.{state_count, timer_count}
+use Rattle.meaning.specs.Hierarchy.{paired}
+use Rattle.meaning.specs.Literals.{input_on}
+use Rattle.meaning.specs.Machine.{active_leaf, state_after_step}
+use Rattle.meaning.specs.Laws.Machine.{SoundMemory, valid_sound, step_valid}
+use Rattle.chart_paths.specs.WalkLaws.{leaf_known}
+use Rattle.meaning.specs.Laws.Bits.{and_bit}
+use Rattle.chart_scan.specs.Held.{held}
+use Rattle.chart_timers.specs.Times.{value_grown}
+use Rattle.chart_scan.specs.StepLaws.{chosen_on, step_held}
+use Rattle.chart_scan.proofs.scan.Goals as goal
+
+pub returns : goal.returns
+returns c c' d e f g R M lm lt val le =
+    let a = c.args in
+    let m = a.memory.now in
+    let ts = a.timers.now in
+    let m' = c.leaf_after-next.new.1.1.1.1.0 in
+    let ts' = c.time.new.1.1.1.1.0 in
+    let ran = c.word-ran.result in
+    let y = c.expired_of-y.result in
+    let goes = bit_and ran c.word.result in
+    let i = c.chosen-i.result in
+    let few = R.size.few_states in
+    let S = valid_sound c' R (held c' m ts) val in
+    let known : a.l < state_count c' = rw le (leaf_known c' R m S) in
+    let count : timer_count c' ≡ length a.presets.now = unfold timer_count in (ap length g) in
+    let fewer : length a.presets.now ≤ 32 = omega (arith, count, R.size.few_timers) in
+    let bits : (n : ℕ) → n < 64 → input_on ran (suc n) ≡ paired c' c'.timer_pairs (suc n) a.l = λ n z. rw c.word-ran.ensures (M.running a.l n known z) in
+    let q = c.chosen-i.ensures c' e f R M.linked M.holds M.room (omega (arith, known, few)) (record { inputs = c.ranges.x.fits; timers = c.expired_of-y.type_inv })
+    ∙ chosen_on c' R a.x ran y a.l m ts le bits (λ j z. rw g (c.expired_of-y.ensures fewer j (omega (arith, count, z)))) in
+    let after = c.leaf_after-next.ensures c' e f R lm le in
+    let next : (T : SoundMemory c' (take (state_count c') m')) → c.leaf_after-next.result ≡ active_leaf c' (take (state_count c') m') = after.1 in
+    let both : (T : SoundMemory c' (take (state_count c') m')) (n : ℕ) → n < 64 → input_on goes (suc n) ≡ (paired c' c'.timer_pairs (suc n) (active_leaf c' (take (state_count c') m)) && paired c' c'.timer_pairs (suc n) (active_leaf c' (take (state_count c') m'))) = λ T n z.
+    and_bit ran c.word.result (suc n) ∙ ap₂ (λ (p q : Bool). p && q) (bits n z ∙ ap (paired c' c'.timer_pairs (suc n)) le)
+    (ap (λ w. input_on w (suc n)) c.word.ensures ∙ M.running c.leaf_after-next.result n (rw (next T) (leaf_known c' R m' T)) z ∙ ap (paired c' c'.timer_pairs (suc n)) (next T)) in
+    let held' : held c' m' ts' ≡ state_after_step c' a.x (held c' m ts) = step_held c' R a.x i goes m ts m' ts' val (c.time.auto.1.1.1.1.0 ∙ lt) q
+    after.0 both
+    (λ j z. c.time.ensures fewer (omega (arith, lt, fewer)) j (omega (arith, count, z)) ∙ ap₂ (λ (u w : ℕ). value_grown u w (input_on goes (suc j)) (get_or ts j 0)) (sym d) (M.longest j z)) in
+    (held', next (valid_sound c' R (held c' m' ts') (rw held' (step_valid c' R a.x (held c' m ts) val))))

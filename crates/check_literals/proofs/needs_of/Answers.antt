@@ -1,0 +1,59 @@
+use native.Mathlib.Omega.{arith}
+use native.Mathlib.Numerals.{add-one}
+use mathlib.Core.Path.{◌≡◌, refl, sym, ap, ◌∙◌}
+use mathlib.Core.Bool.{true, false≢true}
+use Prim.Native.Nat.{◌-◌}
+use lib.IntN.{nat_abs}
+use mir.Syntax.{w16}
+use mir.Facts.{to_z-of_z}
+use borrow.Author.Rules.{sfits_of}
+use borrow.Author.Tests.{not-true, not-false}
+use borrow.Author.Count.{below_none, below_more}
+use Rattle.meaning.specs.Rows.{some}
+use Rattle.meaning.specs.Laws.Rows.{every_intro, every_no}
+use Rattle.meaning.specs.Literals.{kind_of, wanted}
+use Rattle.meaning.specs.Check.{place_passes, literal_passes}
+use Rattle.check_literals.specs.PlaceLaws.{one_more}
+use Rattle.check_needs.specs.WordsLaws.{no_needs_lem}
+use Rattle.check_literals.proofs.needs_of.Goals as goal
+
+pub loop-k-init : goal.loop-k-init
+unfolding some
+loop-k-init c = (omega arith, λ c' p q e. (record { words = no_needs_lem c' c.args.i; end = refl }, refl, below_none (λ m. place_passes c' c.args.i m ≡ true)))
+
+pub returns-then-not-kind_passes : goal.returns-then-not-kind_passes
+unfolding literal_passes
+returns-then-not-kind_passes c c' p q e =
+    let i = c.args.i in
+    let b = c.loop-k in
+    let v = c.literal-v in
+    let f = c.kind-kind.ensures ∙ ap (λ z. kind_of (nat_abs z)) (to_z-of_z {w = w16} (sfits_of v.type_inv) ∙ v.ensures c' e) in
+    let g = c.kind_passes.ensures c' i b.k p q (b.invariant.1 c' p q e).0 f in
+    (sym (every_no (place_passes c' i) 8 b.k (omega arith) (sym g ∙ c.if-not-kind_passes.true)), λ z. absurd (false≢true z))
+
+pub loop-k-preserved : goal.loop-k-preserved
+unfolding place_passes
+loop-k-preserved c =
+    let i = c.args.i in
+    let b = c.loop-k in
+    let v = c.literal-v in
+    let w = c.wanted in
+    let o = c.kind_passes in (
+      omega arith,
+      λ c' p q e.
+          let z = to_z-of_z {w = w16} (sfits_of v.type_inv) ∙ v.ensures c' e in
+          let f = c.kind-kind.ensures ∙ ap (λ y. kind_of (nat_abs y)) z in
+          let h = b.invariant.1 c' p q e in
+          let g = sym (o.ensures c' i b.k p q h.0 f) ∙ c.if-not-kind_passes.false in
+          let d = rw (w.ensures ∙ ap wanted z, f) at c.with_place-a.ensures in
+          (rw add-one (one_more c' i b.k b.a c.with_place-a.result h.0 d), d.passes ∙ h.1, below_more (λ m. place_passes c' i m ≡ true) b.k h.2 g),
+    )
+
+pub returns : goal.returns
+unfolding literal_passes
+returns c c' p q e =
+    let i = c.args.i in
+    let b = c.loop-k in
+    let h = b.invariant.1 c' p q e in
+    let z : b.k ≡ 8 = omega arith in
+    (h.1 ∙ sym (every_intro (place_passes c' i) 8 (λ m g. h.2 m (omega arith))), λ x. rw z at h.0.words)

@@ -1,0 +1,11 @@
+use borrow.Author.Tests.{eq-eqb, ne_eqb}
+use Rattle.csv_cursor.proofs.is_end.Goals as goal
+
+pub returns-then-b-eq-COMMA : goal.returns-then-b-eq-COMMA
+returns-then-b-eq-COMMA c = simp (eq-eqb _ _ c.if-b-eq-COMMA.true)
+
+pub returns-then-b-eq-LF : goal.returns-then-b-eq-LF
+returns-then-b-eq-LF c = simp (ne_eqb _ _ c.if-b-eq-COMMA.false, eq-eqb _ _ c.if-b-eq-LF.true)
+
+pub returns : goal.returns
+returns c = simp (ne_eqb _ _ c.if-b-eq-COMMA.false, ne_eqb _ _ c.if-b-eq-LF.false)

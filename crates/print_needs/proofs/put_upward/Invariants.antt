@@ -1,0 +1,16 @@
+-- After k levels the state and the k above it are written.
+use mathlib.Core.Path.{◌≡◌}
+use Prim.Native.Nat.{◌-◌, ◌≤◌}
+use lib.ListN.{length}
+use Rattle.meaning.specs.Tables.{Tables}
+use Rattle.meaning.specs.Hierarchy.{up}
+use Rattle.write_lines.specs.Put.{BytesPut}
+use Rattle.print_needs.specs.Lines.{above_of}
+use Rattle.print_needs.proofs.put_upward.Given as goal
+
+abbrev pub invariant-loop-k : goal.invariant-loop-k
+invariant-loop-k l = (l.k ≤ l.initial.out) × (length l.out ≡ length l.at)
+    × ((c : Tables) → c.states ≡ l.s → (l.t ≡ up c l.k l.levels) × BytesPut l.at l.initial.p (above_of c l.levels l.k) l.out l.p)
+
+abbrev pub decreases-loop-k : goal.decreases-loop-k
+decreases-loop-k l = l.initial.out - l.k

@@ -1,0 +1,19 @@
+use Rattle.meaning.specs.Layout.{flip_flop_count}
+use Rattle.roundtrip_run.specs.Going.{part_cleared}
+use native.Mathlib.Omega.{arith}
+use lib.ListN.{length-take, length-replicate}
+use Rattle.layout.specs.LaidLaws.{total_is}
+use borrow.Author.Rules.{rules}
+use Rattle.roundtrip_run.proofs.run_words.Goals as goal
+
+pub returns-then-total-gt-FLIP_FLOPS : goal.returns-then-total-gt-FLIP_FLOPS
+returns-then-total-gt-FLIP_FLOPS c c' d e R f p q = absurd (omega (arith, R.flip_flop.few, total_is c' _ (c.lay_out-laid.ensures c' e) R.size.few_states))
+
+pub slice_bounds-run_scans-end : goal.slice_bounds-run_scans-end
+slice_bounds-run_scans-end c = simp (length-take, length-replicate) (omega arith)
+
+pub returns : goal.returns
+returns c c' d e R f p q =
+    let o = c.lay_out-laid.ensures c' e in
+    c.run_scans.ensures c'
+    (record { step = d; states = e; rules = R; laid = o; list = f; clear = part_cleared _ (flip_flop_count c') (total_is c' _ o R.size.few_states) R.flip_flop.few }) p q

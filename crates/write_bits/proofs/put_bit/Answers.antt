@@ -1,0 +1,14 @@
+use mathlib.Core.Path.{◌≡◌}
+use Rattle.meaning.specs.declared.Operand.TheVariants.{Mx}
+use Rattle.write_bits.specs.Sent.{way_after}
+use Rattle.write_bits.specs.SentLaws.{one_put}
+use native.Mathlib.Omega.{arith}
+use Prim.Native.Nat.{◌%◌}
+use Rattle.write_bits.proofs.put_bit.Goals as goal
+
+pub returns : goal.returns
+unfolding way_after
+returns c h =
+    let a = c.args in
+    let e : a.n % 65536 ≡ a.n = omega arith in
+    record { put = one_put a.spot.way a.wanted (Mx a.n) c.put_asked-p.ensures (rw e at c.put_mx-at.ensures); way = c.next.ensures }

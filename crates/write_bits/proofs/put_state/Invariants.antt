@@ -1,0 +1,18 @@
+use mathlib.Core.Path.{◌≡◌}
+use Prim.Native.Nat.{◌-◌, ◌≤◌, ◌<◌}
+use lib.ListN.{length}
+use Rattle.meaning.specs.Tables.{Tables, state_count}
+use Rattle.meaning.specs.Hierarchy.{up, depth}
+use Rattle.meaning.specs.Written.{path_bits}
+use Rattle.write_bits.specs.Sent.{TestsPut, bit_at, laid, LaidTables}
+use Rattle.write_operators.specs.Ways.{base_of}
+use Rattle.write_bits.proofs.put_state.Given as goal
+
+abbrev pub invariant-loop-k : goal.invariant-loop-k
+invariant-loop-k l =
+    (l.k ≤ 9) × (length l.out ≡ length l.states)
+    × ((c : Tables) → LaidTables c l.first (laid l.width l.code l.total l.s) → l.path < state_count c
+    → (l.k ≤ depth c l.path) × TestsPut l.states l.initial.p (path_bits c (bit_at (base_of l.s l.initial.p.way)) (depth c l.path - l.k) (up c l.k l.path)) l.out l.p)
+
+abbrev pub decreases-loop-k : goal.decreases-loop-k
+decreases-loop-k l = l.k

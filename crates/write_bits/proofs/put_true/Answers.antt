@@ -1,0 +1,16 @@
+use native.Mathlib.Omega.{arith}
+use Rattle.meaning.specs.declared.Operand.TheVariants.{True}
+use Rattle.meaning.specs.declared.Operator.TheVariants.{Ld}
+use Rattle.format.specs.Text.{line, operator_text, operand_text}
+use Rattle.write_bits.specs.SentLaws.{put_line, put_nil}
+use Rattle.write_bits.proofs.put_true.Goals as goal
+
+pub returns-in-First : goal.returns-in-First
+unfolding line operator_text operand_text
+returns-in-First c = rw c.enum_told-1.given.1 (put_line (Ld True) c.put_part.ensures)
+
+pub returns-in-More : goal.returns-in-More
+returns-in-More c = rw c.enum_told-in-More-1.given.1 (put_nil _ _ (omega arith) (omega arith))
+
+pub returns-in-Store : goal.returns-in-Store
+returns-in-Store c = rw c.enum_told-in-Store-1.given.1 (put_nil _ _ (omega arith) (omega arith))

@@ -1,0 +1,17 @@
+use mathlib.Core.Path.{◌≡◌}
+use Prim.Native.Nat.{◌-◌, ◌≤◌}
+use lib.ListN.{length}
+use Rattle.write_lines.specs.Fit.{PutIfRoom}
+use Rattle.write_bits.specs.Sent.{lines}
+use Rattle.meaning.specs.Tables.{Tables}
+use Rattle.meaning.specs.Layout.{flip_flop_count}
+use Rattle.meaning.specs.Rules.{Rules}
+use Rattle.write_rungs.specs.Sections.{copies_to}
+use Rattle.write_rungs.proofs.put_copies.Given as goal
+
+abbrev pub invariant-loop-b : goal.invariant-loop-b
+invariant-loop-b l =
+    (l.b ≤ l.initial.out) × (length l.out ≡ length l.at) × ((c : Tables) → Rules c → l.initial.out ≡ flip_flop_count c → PutIfRoom l.at l.total (lines (copies_to c l.b)) l.out l.p)
+
+abbrev pub decreases-loop-b : goal.decreases-loop-b
+decreases-loop-b l = l.initial.out - l.b
