@@ -22,9 +22,6 @@ loop-i-init c = (
       (record { state = refl; leaves = refl; outputs = refl }, c.active_leaf-l.ensures ∙ walk_active c' R c.args.memory.now (valid_sound c' R _ v)),
 )
 
-pub overflow_add-i : goal.overflow_add-i
-overflow_add-i c = record { fits = (let h = c.loop-i-test.true in omega (arith, c.well-formed.1.1.1.1.1.1.1.1.1.1.1.0)) }
-
 pub loop-i-preserved : goal.loop-i-preserved
 loop-i-preserved c =
     let a = c.args in
