@@ -16,10 +16,6 @@ use Rattle.chart_state_read.specs.CodesLaws.{right_length, codes_given}
 use Rattle.chart_lent.specs.RunLaws.{refused_state, refused_scans, done}
 use Rattle.chart_lent.proofs.run_in.Goals as goal
 
--- the array of codes is whole
-codes-long : (c : tie.After-codes-of) → length c.codes-of.result ≡ 256
-codes-long c = search rules
-
 pub shape_of-wants-then-not-state_passes : goal.shape_of-wants-then-not-state_passes
 shape_of-wants-then-not-state_passes c = c.state_passes.auto.wants
 
@@ -54,9 +50,6 @@ returns-then-not-scans_pass c c' g R O =
 
 pub slice_bounds-run-end : goal.slice_bounds-run-end
 slice_bounds-run-end c = sym c.state_passes.auto.timers
-
-pub slice_bounds-encode-end : goal.slice_bounds-encode-end
-slice_bounds-encode-end c = sym (codes-long c.before)
 
 pub shape_of-wants : goal.shape_of-wants
 shape_of-wants c = omega (arith, c.state_passes.auto.wants)
@@ -96,7 +89,7 @@ returns c c' g R O =
     let D = r.1 yes-passes in
     let long = right_length c' R l passes in
     let v : Valid c' (held c' sp.new.memory sp.new.timers) = rw D.state (lent_valid c' R l passes) in
-    let G : TablesGiven c' a.chart.step a.chart.outputs a.states.now a.moves.now a.presets.now c'.timer_pairs a.output-pairs.now = record { step = g.step; outputs = g.outputs; lent = record { states = g.lent.states; moves = g.lent.moves; presets = g.lent.presets; timer_pairs = refl; output_pairs = g.lent.output_pairs } } in
+    let G : TablesGiven c' a.chart.step a.chart.outputs a.states.now a.moves.now a.presets.now c'.timer_pairs a.output_pairs.now = record { step = g.step; outputs = g.outputs; lent = record { states = g.lent.states; moves = g.lent.moves; presets = g.lent.presets; timer_pairs = refl; output_pairs = g.lent.output_pairs } } in
     let full : length sp.new.timers ≡ 32 = sp.auto.timers ∙ O.state.timers_room in
     let s = run.ensures c' G R D.running O.scans (omega (arith, O.state.memory_room, sp.auto.memory)) full v same-leaves same-outputs in
     let w : Valid c' (held c' run.new.memory run.new.timers) = rw s.state (after_valid c' R a.inputs.now _ v) in
