@@ -1,6 +1,6 @@
 use native.Mathlib.Omega.{arith}
 use mathlib.Core.Path.{refl, ◌∙◌}
-use Prim.Native.Nat.{suc, ◌-◌}
+use Prim.Native.Nat.{suc}
 use lib.ListN.{get_or}
 use lib.Seq.{get_or-set_same, get_or-set_other}
 use native.Mathlib.Decide.{ℕ_discrete}
