@@ -1,10 +1,9 @@
 use Rattle.std.proofs.Common.{Bool, ◌≡◌, refl, sym, ap, ◌∙◌, length, get_or, arith}
 use Rattle.meaning.specs.Scan.{blank}
-use Rattle.meaning.specs.declared.Block.{Block}
 use Rattle.il_block.specs.Called.{called_with}
 use Rattle.il_scan.specs.declared.Stop.{Stop}
 use Rattle.il_scan.specs.Run.{ScanPoint, resumed}
-use Rattle.il_scan.specs.Advance.{StopKnown, ScanTurn, turn_last, turn_on}
+use Rattle.il_scan.specs.Advance.{ScanTurn, turn_last, turn_on}
 use Rattle.il_run.specs.Row.{scan_of}
 use Rattle.il_run.proofs.scan.Goals as goal
 

@@ -2,7 +2,6 @@ use Rattle.il_times.specs.Sizes.{Rungs, rungs_on, rungs_end, rung_called, rung_n
 use Rattle.format.specs.Decode.{decoded}
 use lib.ListN.{get_or, length-set}
 use native.Mathlib.Omega.{arith}
-use Prim.Native.Nat.{◌-◌}
 use mathlib.Core.Path.{refl, sym, ap, ◌∙◌}
 use Rattle.il_times.proofs.times_of.Goals as goal
 use Rattle.il_times.proofs.times_of.Goals.{then-k-lt32, else-k-lt32}
