@@ -4,11 +4,11 @@ use Rattle.chart_calls.specs.Runs.{refused_tables, accepted_tables}
 use Rattle.chart_calls.proofs.run_chart.Goals as goal
 
 pub returns-in-Refused : goal.returns-in-Refused
-returns-in-Refused c = refused_tables _ _ _ _ _ _ (sym c.check-v.ensures ∙ c.v-1.given.1)
+returns-in-Refused c = refused_tables _ _ _ _ _ _ (sym c.check-v.ensures ∙ c.in-Refused.is)
 
 pub returns-in-Accepted : goal.returns-in-Accepted
 returns-in-Accepted c =
-    let e = sym c.check-v.ensures ∙ c.enum_told-1.given.1 in
+    let e = sym c.check-v.ensures ∙ c.in-Accepted.is in
     accepted_tables _ _ _ _ _ _ _ _ _ e
     (c.run_checked.ensures _
     (record { step = refl; outputs = refl; lent = record { states = refl; moves = refl; presets = refl; timer_pairs = refl; output_pairs = refl } })

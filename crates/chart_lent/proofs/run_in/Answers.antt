@@ -16,18 +16,14 @@ use Rattle.chart_state_read.specs.CodesLaws.{right_length, codes_given}
 use Rattle.chart_lent.specs.RunLaws.{refused_state, refused_scans, done}
 use Rattle.chart_lent.proofs.run_in.Goals as goal
 
--- the array of codes is whole
-codes-long : (c : tie.After-codes-of) → length c.codes-of.result ≡ 256
-codes-long c = search rules
-
 pub shape_of-wants-then-not-state_passes : goal.shape_of-wants-then-not-state_passes
-shape_of-wants-then-not-state_passes c = c.state_passes.auto.1.1.1.1.1.1.0
+shape_of-wants-then-not-state_passes c = c.state_passes.auto.wants
 
 pub shape_of-memory-then-not-state_passes : goal.shape_of-memory-then-not-state_passes
-shape_of-memory-then-not-state_passes c = c.state_passes.auto.1.1.1.1.1.1.1.0
+shape_of-memory-then-not-state_passes c = c.state_passes.auto.memory
 
 pub shape_of-runs-then-not-state_passes : goal.shape_of-runs-then-not-state_passes
-shape_of-runs-then-not-state_passes c = c.state_passes.auto.1.1.1.1.1.1.1.1.1.0
+shape_of-runs-then-not-state_passes c = c.state_passes.auto.runs
 
 pub returns-then-not-state_passes : goal.returns-then-not-state_passes
 returns-then-not-state_passes c c' g R O =
@@ -37,13 +33,13 @@ returns-then-not-state_passes c c' g R O =
     refused_state c' a.inputs.now a.state.now a.leaves.now a.outputs.now (sym r.0 ∙ c.if-not-state_passes.true)
 
 pub shape_of-wants-then-not-scans_pass : goal.shape_of-wants-then-not-scans_pass
-shape_of-wants-then-not-scans_pass c = c.state_passes.auto.1.1.1.1.1.1.0
+shape_of-wants-then-not-scans_pass c = c.state_passes.auto.wants
 
 pub shape_of-memory-then-not-scans_pass : goal.shape_of-memory-then-not-scans_pass
-shape_of-memory-then-not-scans_pass c = c.state_passes.auto.1.1.1.1.1.1.1.0
+shape_of-memory-then-not-scans_pass c = c.state_passes.auto.memory
 
 pub shape_of-runs-then-not-scans_pass : goal.shape_of-runs-then-not-scans_pass
-shape_of-runs-then-not-scans_pass c = c.state_passes.auto.1.1.1.1.1.1.1.1.1.0
+shape_of-runs-then-not-scans_pass c = c.state_passes.auto.runs
 
 pub returns-then-not-scans_pass : goal.returns-then-not-scans_pass
 returns-then-not-scans_pass c c' g R O =
@@ -53,31 +49,28 @@ returns-then-not-scans_pass c c' g R O =
     refused_scans c' a.inputs.now a.state.now a.leaves.now a.outputs.now (sym r.0 ∙ c.if-not-state_passes.false) (sym c.scans_pass.ensures ∙ c.if-not-scans_pass.true)
 
 pub slice_bounds-run-end : goal.slice_bounds-run-end
-slice_bounds-run-end c = sym c.state_passes.auto.1.1.1.1.1.1.1.1.0
-
-pub slice_bounds-encode-end : goal.slice_bounds-encode-end
-slice_bounds-encode-end c = sym (codes-long c.before)
+slice_bounds-run-end c = sym c.state_passes.auto.timers
 
 pub shape_of-wants : goal.shape_of-wants
-shape_of-wants c = omega (arith, c.state_passes.auto.1.1.1.1.1.1.0)
+shape_of-wants c = omega (arith, c.state_passes.auto.wants)
 
 pub shape_of-memory : goal.shape_of-memory
-shape_of-memory c = c.run.auto.1.1.1.1.1.1.1.1.0 ∙ c.state_passes.auto.1.1.1.1.1.1.1.0
+shape_of-memory c = c.run.auto.memory ∙ c.state_passes.auto.memory
 
 pub shape_of-runs : goal.shape_of-runs
-shape_of-runs c = c.state_passes.auto.1.1.1.1.1.1.1.1.1.0
+shape_of-runs c = c.state_passes.auto.runs
 
 pub shape_of-shows : goal.shape_of-shows
-shape_of-shows c = c.run.auto.1.1.1.1.1.1.0
+shape_of-shows c = c.run.auto.shows
 
 pub shape_of-needs : goal.shape_of-needs
-shape_of-needs c = c.run.auto.1.1.1.1.1.1.1.0
+shape_of-needs c = c.run.auto.needs
 
 pub shape_of-leaves : goal.shape_of-leaves
-shape_of-leaves c = c.run.auto.1.1.1.1.1.1.1.1.1.1.1.0
+shape_of-leaves c = c.run.auto.leaves
 
 pub shape_of-outputs : goal.shape_of-outputs
-shape_of-outputs c = c.run.auto.1.1.1.1.1.1.1.1.1.1.1.1.0
+shape_of-outputs c = c.run.auto.outputs
 
 pub returns : goal.returns
 returns c c' g R O =
@@ -95,11 +88,11 @@ returns c c' g R O =
     let passes : state_passes c' l ≡ true = sym r.0 ∙ yes-passes in
     let D = r.1 yes-passes in
     let long = right_length c' R l passes in
-    let v : Valid c' (held c' sp.new.1.1.1.1.1.1.1.0 sp.new.1.1.1.1.1.1.1.1.0) = rw D.state (lent_valid c' R l passes) in
-    let G : TablesGiven c' a.chart.step a.chart.outputs a.states.now a.moves.now a.presets.now c'.timer_pairs a.output-pairs.now = record { step = g.step; outputs = g.outputs; lent = record { states = g.lent.states; moves = g.lent.moves; presets = g.lent.presets; timer_pairs = refl; output_pairs = g.lent.output_pairs } } in
-    let full : length sp.new.1.1.1.1.1.1.1.1.0 ≡ 32 = sp.auto.1.1.1.1.1.1.1.1.0 ∙ O.state.timers_room in
-    let s = run.ensures c' G R D.running O.scans (omega (arith, O.state.memory_room, sp.auto.1.1.1.1.1.1.1.0)) full v same-leaves same-outputs in
-    let w : Valid c' (held c' run.new.1.1.1.1.1.1.1.1.0 run.new.1.1.1.1.1.1.1.1.1.0) = rw s.state (after_valid c' R a.inputs.now _ v) in
-    done c' a.inputs.now a.state.now a.leaves.now a.outputs.now passes same-leaves same-outputs (held c' run.new.1.1.1.1.1.1.1.1.0 run.new.1.1.1.1.1.1.1.1.1.0)
-    c.encode.new.1.1.1.1.1.0 run.new.1.1.1.1.1.1.1.1.1.1.1.0 run.new.1.1.1.1.1.1.1.1.1.1.1.1.0
-    (rw D.state at s) (c.encode.ensures c' g.lent.states g.lent.presets R C (run.auto.1.1.1.1.1.1.1.1.1.0 ∙ full) w long)
+    let v : Valid c' (held c' sp.new.memory sp.new.timers) = rw D.state (lent_valid c' R l passes) in
+    let G : TablesGiven c' a.chart.step a.chart.outputs a.states.now a.moves.now a.presets.now c'.timer_pairs a.output_pairs.now = record { step = g.step; outputs = g.outputs; lent = record { states = g.lent.states; moves = g.lent.moves; presets = g.lent.presets; timer_pairs = refl; output_pairs = g.lent.output_pairs } } in
+    let full : length sp.new.timers ≡ 32 = sp.auto.timers ∙ O.state.timers_room in
+    let s = run.ensures c' G R D.running O.scans (omega (arith, O.state.memory_room, sp.auto.memory)) full v same-leaves same-outputs in
+    let w : Valid c' (held c' run.new.memory run.new.timers) = rw s.state (after_valid c' R a.inputs.now _ v) in
+    done c' a.inputs.now a.state.now a.leaves.now a.outputs.now passes same-leaves same-outputs (held c' run.new.memory run.new.timers)
+    c.encode.new.state run.new.leaves run.new.outputs
+    (rw D.state at s) (c.encode.ensures c' g.lent.states g.lent.presets R C (run.auto.timers ∙ full) w long)

@@ -25,7 +25,7 @@ loop-k-preserved c =
     let b = c.loop-k in
     let r = c.remember in (
       omega arith,
-      r.auto.0 ∙ b.invariant.1,
+      r.auto.memory ∙ b.invariant.1,
       λ c' e R h.
           let i = b.invariant.2 c' e R h in
           let z : 8 - b.k ≡ suc (8 - (b.k + 1)) = omega arith in

@@ -22,7 +22,7 @@ pub loop-k-init : goal.loop-k-init
 loop-k-init c = (omega arith, refl, λ c' e R h. (h, refl))
 
 pub shape_of-memory-then-below-eq0 : goal.shape_of-memory-then-below-eq0
-shape_of-memory-then-below-eq0 c = c.remember.auto.0 ∙ c.loop-k.invariant.1
+shape_of-memory-then-below-eq0 c = c.remember.auto.memory ∙ c.loop-k.invariant.1
 
 pub returns-then-below-eq0 : goal.returns-then-below-eq0
 unfolding set_below
@@ -41,7 +41,7 @@ loop-k-preserved c =
     let b = c.loop-k in
     let r = c.remember in (
       omega arith,
-      r.auto.0 ∙ b.invariant.1,
+      r.auto.memory ∙ b.invariant.1,
       λ c' e R h.
           let i = b.invariant.2 c' e R h in
           let z : 9 - b.k ≡ suc (9 - (b.k + 1)) = omega arith in

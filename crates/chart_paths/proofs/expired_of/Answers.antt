@@ -1,7 +1,7 @@
 use native.Mathlib.Omega.{arith}
 use mathlib.Core.Path.{◌≡◌, refl, ap, sym, ◌∙◌}
 use mathlib.Core.Bool.{Bool, ◌&&◌, ◌||◌, or-false}
-use Prim.Native.Nat.{ℕ, suc, ◌-◌, ◌+◌}
+use Prim.Native.Nat.{ℕ, suc, ◌+◌}
 use lib.Dec.{eqb, ltb}
 use borrow.Author.Tests.{eq-eqb, ne_eqb, lt-ltb, le-ltb, ltb-true}
 use native.Mathlib.Decide.{ℕ_discrete}

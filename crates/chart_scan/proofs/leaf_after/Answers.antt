@@ -10,7 +10,7 @@ pub returns-then-moves-i : goal.returns-then-moves-i
 returns-then-moves-i c c' e f R lm le = (rw (le-ltb c.args.i (move_count c') (omega (arith, c.if-moves-i.true, move_count_lem c' _ f))), λ S. le)
 
 pub shape_of-memory : goal.shape_of-memory
-shape_of-memory c = c.enter.auto.1.1.1.0
+shape_of-memory c = c.enter.auto.memory
 
 pub returns : goal.returns
-returns c c' e f R lm le = (c.enter.ensures c' e f R lm, λ S. c.active_leaf.ensures ∙ walk_active c' R c.enter.new.1.1.1.0 S)
+returns c c' e f R lm le = (c.enter.ensures c' e f R lm, λ S. c.active_leaf.ensures ∙ walk_active c' R c.enter.new.memory S)

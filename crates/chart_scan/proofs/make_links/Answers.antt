@@ -22,7 +22,7 @@ pub loop-i-preserved : goal.loop-i-preserved
 loop-i-preserved c =
     let b = c.loop-i in (
       omega arith,
-      c.link.auto.1.1.0 ∙ b.invariant.1,
+      c.link.auto.links ∙ b.invariant.1,
       λ c' e R long zero.
           let k = source_known c' R b.i (omega (arith, move_count_lem c' _ e)) in
           rw (add-one, c.link.ensures c' e k (omega (arith, b.invariant.1))) (linked_more c' b.i b.links (omega arith) (omega (arith, b.invariant.1)) k (b.invariant.2 c' e R long zero)),

@@ -12,6 +12,6 @@ pub returns : goal.returns
 unfolding move_count
 returns c c' e R long i v h p =
     let f = c.fill in
-    hold_words_lem (widest c') i (λ k z. place_known (widest c') i k (widest_passes c' R i h) z) (needs_at f.new.1.1.1.0 i) v p
+    hold_words_lem (widest c') i (λ k z. place_known (widest c') i k (widest_passes c' R i h) z) (needs_at f.new.words i) v p
     (f.ensures (widest c') refl (widest_timers c') e (λ j z. widest_passes c' R j z) long i h)
     ∙ widest_holds c' (read v) i

@@ -22,30 +22,27 @@ loop-i-init c = (
       (record { state = refl; leaves = refl; outputs = refl }, c.active_leaf-l.ensures ∙ walk_active c' R c.args.memory.now (valid_sound c' R _ v)),
 )
 
-pub overflow_add-i : goal.overflow_add-i
-overflow_add-i c = record { fits = (let h = c.loop-i-test.true in omega (arith, c.well-formed.1.1.1.1.1.1.1.1.1.1.1.0)) }
-
 pub loop-i-preserved : goal.loop-i-preserved
 loop-i-preserved c =
     let a = c.args in
     let b = c.loop-i in
     let i = c.loop-i-test.true in
     let n = c.scan-l in
-    let m' = n.new.1.1.1.1.1.1.1.1.0 in
-    let ts' = n.new.1.1.1.1.1.1.1.1.1.0 in
+    let m' = n.new.memory in
+    let ts' = n.new.timers in
     let s = c.show in (
       omega (arith, i),
-      s.auto.1.1.1.0 ∙ b.invariant.1,
-      s.auto.1.1.1.1.0 ∙ b.invariant.2,
-      n.auto.1.1.1.1.1.1.1.1.0 ∙ b.invariant.3,
-      n.auto.1.1.1.1.1.1.1.1.1.0 ∙ b.invariant.4,
+      s.auto.leaves ∙ b.invariant.1,
+      s.auto.outputs ∙ b.invariant.2,
+      n.auto.memory ∙ b.invariant.3,
+      n.auto.timers ∙ b.invariant.4,
       λ c' d e f g R M W lm lt v p q.
           let r = b.invariant.5 c' d e f g R M W lm lt v p q in
           let w : Valid c' (held c' b.memory b.timers) = rw r.0.state (after_valid c' R (take b.i a.inputs.now) _ v) in
           let t = n.ensures c' d e f g R M (omega (arith, lm, b.invariant.3)) (b.invariant.4 ∙ lt) w r.1 in
           let u : Valid c' (held c' m' ts') = rw t.0 (step_valid c' R _ _ w) in
           let o = s.ensures c' R W (rw t.1 (leaf_known c' R m' (valid_sound c' R _ u))) in (
-            ran_shown c' (held c' a.memory.now a.timers.now) a.inputs.now b.leaves b.outputs s.new.1.1.1.0 s.new.1.1.1.1.0
+            ran_shown c' (held c' a.memory.now a.timers.now) a.inputs.now b.leaves b.outputs s.new.leaves s.new.outputs
                 b.memory b.timers m' ts' b.i (get_or a.inputs.now b.i 0) refl i (omega (arith, b.invariant.1, p, i)) (omega (arith, b.invariant.2, q, i)) r.0 t.0
                 (o.0 ∙ ap (set b.leaves b.i) t.1) (o.1 ∙ ap (λ l. set b.outputs b.i (seen_at_leaf c' l).outputs) t.1),
             t.1,

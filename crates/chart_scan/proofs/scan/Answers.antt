@@ -21,8 +21,8 @@ returns c c' d e f g R M lm lt val le =
     let a = c.args in
     let m = a.memory.now in
     let ts = a.timers.now in
-    let m' = c.leaf_after-next.new.1.1.1.1.0 in
-    let ts' = c.time.new.1.1.1.1.0 in
+    let m' = c.leaf_after-next.new.memory in
+    let ts' = c.time.new.timers in
     let ran = c.word-ran.result in
     let y = c.expired_of-y.result in
     let goes = bit_and ran c.word.result in
@@ -40,7 +40,7 @@ returns c c' d e f g R M lm lt val le =
     let both : (T : SoundMemory c' (take (state_count c') m')) (n : ℕ) → n < 64 → input_on goes (suc n) ≡ (paired c' c'.timer_pairs (suc n) (active_leaf c' (take (state_count c') m)) && paired c' c'.timer_pairs (suc n) (active_leaf c' (take (state_count c') m'))) = λ T n z.
     and_bit ran c.word.result (suc n) ∙ ap₂ (λ (p q : Bool). p && q) (bits n z ∙ ap (paired c' c'.timer_pairs (suc n)) le)
     (ap (λ w. input_on w (suc n)) c.word.ensures ∙ M.running c.leaf_after-next.result n (rw (next T) (leaf_known c' R m' T)) z ∙ ap (paired c' c'.timer_pairs (suc n)) (next T)) in
-    let held' : held c' m' ts' ≡ state_after_step c' a.x (held c' m ts) = step_held c' R a.x i goes m ts m' ts' val (c.time.auto.1.1.1.1.0 ∙ lt) q
+    let held' : held c' m' ts' ≡ state_after_step c' a.x (held c' m ts) = step_held c' R a.x i goes m ts m' ts' val (c.time.auto.timers ∙ lt) q
     after.0 both
     (λ j z. c.time.ensures fewer (omega (arith, lt, fewer)) j (omega (arith, count, z)) ∙ ap₂ (λ (u w : ℕ). value_grown u w (input_on goes (suc j)) (get_or ts j 0)) (sym d) (M.longest j z)) in
     (held', next (valid_sound c' R (held c' m' ts') (rw held' (step_valid c' R a.x (held c' m ts) val))))

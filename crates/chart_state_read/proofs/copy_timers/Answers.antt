@@ -17,7 +17,7 @@ loop-i-preserved c =
     let t = c.put_value in
     let v = c.value in (
       omega arith,
-      t.auto.0 ∙ b.invariant.1,
+      t.auto.values ∙ b.invariant.1,
       λ j h k. rw t.ensures (elim (ℕ_discrete j b.i) [
         | yes x ↦ rw x (get_or-set_same b.timers b.i v.result 0 (omega (arith, x, k, b.invariant.1)) ∙ v.ensures)
         | no x ↦ get_or-set_other b.timers b.i j v.result 0 x ∙ b.invariant.2 j (omega arith) k

@@ -11,7 +11,7 @@ pub loop-s-preserved : goal.loop-s-preserved
 loop-s-preserved c =
     let b = c.loop-s in
     let f = c.find in (
-      f.auto.1.1.1.1.0 ∙ b.invariant.0,
+      f.auto.memory ∙ b.invariant.0,
       λ c' l e R lm C W F.
           let i = b.invariant.1 c' l e R lm C W F in
           let z : suc (b.s - 1) ≡ b.s = omega arith in

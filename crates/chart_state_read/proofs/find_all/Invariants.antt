@@ -8,9 +8,9 @@ use Rattle.chart_state_read.specs.Codes.{CodesStand, Wanted, Found}
 use Rattle.chart_state_read.proofs.find_all.Given as goal
 
 abbrev pub invariant-loop-s : goal.invariant-loop-s
-invariant-loop-s l = (length l.memory ≡ length l.initial.memory)
-    × ((c : Tables) (l : List ℕ) → c.states ≡ l.states → Rules c → state_count c ≤ length l.initial.memory → CodesStand c l.codes → Wanted c l (state_count c) l.wants → Found c l (state_count c) l.initial.memory
-    → (l.s ≤ state_count c) × Found c l l.s l.memory)
+invariant-loop-s v = (length v.memory ≡ length v.initial.memory)
+    × ((c : Tables) (l : List ℕ) → c.states ≡ v.states → Rules c → state_count c ≤ length v.initial.memory → CodesStand c v.codes → Wanted c l (state_count c) v.wants → Found c l (state_count c) v.initial.memory
+    → (v.s ≤ state_count c) × Found c l v.s v.memory)
 
 abbrev pub decreases-loop-s : goal.decreases-loop-s
-decreases-loop-s l = l.s
+decreases-loop-s v = v.s

@@ -20,50 +20,50 @@ pub returns-then-state-state_length : goal.returns-then-state-state_length
 returns-then-state-state_length c c' d e g p R C E = (sym (wrong_length c' R c.args.state.now (λ z. c.if-state-state_length.true (z ∙ sym (c.state_length.ensures c' e g R)))), λ z. absurd (true≢false (sym z)))
 
 pub shape_of-wants-then-not-codes_pass : goal.shape_of-wants-then-not-codes_pass
-shape_of-wants-then-not-codes_pass c = c.want_all-from.auto.1.1.0
+shape_of-wants-then-not-codes_pass c = c.want_all-from.auto.wants
 
 pub shape_of-memory-then-not-codes_pass : goal.shape_of-memory-then-not-codes_pass
-shape_of-memory-then-not-codes_pass c = c.find_all.auto.1.1.1.0 ∙ c.want_all-from.auto.1.1.1.0
+shape_of-memory-then-not-codes_pass c = c.find_all.auto.memory ∙ c.want_all-from.auto.memory
 
 pub returns-then-not-codes_pass : goal.returns-then-not-codes_pass
 returns-then-not-codes_pass c c' d e g p R C E =
     let l = c.args.state.now in
     let n = c.state_count.ensures.1 c' e R in
     let w = c.want_all-from.ensures.1 c' e R E.wants_room E.memory_room E.no_memory in
-    let m = c.find_all.ensures c' l e R (omega (arith, E.memory_room, c.want_all-from.auto.1.1.1.0)) C w.1 w.2 in
-    (sym (wrong_codes c' R l (sym (entries_pass c' R l c.find_all.new.1.1.1.0 m) ∙ sym (rw n at c.codes_pass.ensures) ∙ c.if-not-codes_pass.true)), λ z. absurd (true≢false (sym z)))
+    let m = c.find_all.ensures c' l e R (omega (arith, E.memory_room, c.want_all-from.auto.memory)) C w.1 w.2 in
+    (sym (wrong_codes c' R l (sym (entries_pass c' R l c.find_all.new.memory m) ∙ sym (rw n at c.codes_pass.ensures) ∙ c.if-not-codes_pass.true)), λ z. absurd (true≢false (sym z)))
 
 pub copy_timers-requires : goal.copy_timers-requires
 copy_timers-requires c = omega (arith, c.want_all-from.ensures.0)
 
 pub shape_of-wants : goal.shape_of-wants
-shape_of-wants c = c.want_all-from.auto.1.1.0
+shape_of-wants c = c.want_all-from.auto.wants
 
 pub shape_of-memory : goal.shape_of-memory
-shape_of-memory c = c.find_all.auto.1.1.1.0 ∙ c.want_all-from.auto.1.1.1.0
+shape_of-memory c = c.find_all.auto.memory ∙ c.want_all-from.auto.memory
 
 pub shape_of-timers : goal.shape_of-timers
-shape_of-timers c = c.copy_timers.auto.1.1.1.0
+shape_of-timers c = c.copy_timers.auto.timers
 
 pub shape_of-runs : goal.shape_of-runs
-shape_of-runs c = c.paired_words.auto.1.1.0
+shape_of-runs c = c.paired_words.auto.words
 
 pub returns : goal.returns
 unfolding timer_count state_of
 returns c c' d e g p R C E =
     let a = c.args in
     let l = a.state.now in
-    let mem = c.find_all.new.1.1.1.0 in
-    let ts = c.copy_timers.new.1.1.1.0 in
-    let rs = c.paired_words.new.1.1.0 in
+    let mem = c.find_all.new.memory in
+    let ts = c.copy_timers.new.timers in
+    let rs = c.paired_words.new.words in
     let n = c.state_count.ensures.1 c' e R in
     let w = c.want_all-from.ensures.1 c' e R E.wants_room E.memory_room E.no_memory in
-    let m = c.find_all.ensures c' l e R (omega (arith, E.memory_room, c.want_all-from.auto.1.1.1.0)) C w.1 w.2 in
+    let m = c.find_all.ensures c' l e R (omega (arith, E.memory_room, c.want_all-from.auto.memory)) C w.1 w.2 in
     let codes = sym (entries_pass c' R l mem m) ∙ sym (rw n at c.codes_pass.ensures) ∙ c.if-not-codes_pass.false in
     let long : length l ≡ lent_length c' = c.if-state-state_length.false ∙ c.state_length.ensures c' e g R in
     let count : length c'.presets ≡ length a.presets.now = ap length g in
     let few = R.size.few_timers in
-    let full : length ts ≡ 32 = c.copy_timers.auto.1.1.1.0 ∙ E.timers_room in
+    let full : length ts ≡ 32 = c.copy_timers.auto.timers ∙ E.timers_room in
     let held-timers = timers_held c' R l ts long full (λ i z. c.copy_timers.ensures (omega (arith, count, few)) (omega (arith, count, few, E.timers_room)) i (omega (arith, count, z)) ∙ ap (λ f. get_or l (f + i) 0) w.0) in
     let sound : SoundMemory c' (take (state_count c') mem) = rw m (codes_sound c' R l codes) in
     let W : PairedWords c' c'.timer_pairs rs = subst (λ ps. PairedWords c' ps rs) (sym p) (c.paired_words.ensures c' e (rules_tree c' R) E.runs_room E.no_runs) in

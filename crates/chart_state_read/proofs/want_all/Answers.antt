@@ -27,13 +27,13 @@ loop-a-preserved c =
     let w = c.want-at in (
       omega arith,
       omega (arith, w.ensures.0),
-      w.auto.1.1.1.1.1.0 ∙ b.invariant.2,
-      w.auto.1.1.1.1.1.1.0 ∙ b.invariant.3,
+      w.auto.wants ∙ b.invariant.2,
+      w.auto.memory ∙ b.invariant.3,
       λ c' e R p q z.
           let i = b.invariant.4 c' e R p q z in
           let h : b.a < state_count c' = omega (arith, n.1 c' e R) in
           let r = w.ensures.1 c' e R h (omega (arith, n.0)) in
-          let u : w.new.1.1.1.1.1.0 ≡ cond (is_leaf c' b.a) b.wants (set b.wants b.a (lent_code c' l b.a)) = r.1 ∙ ap (λ k. cond (is_leaf c' b.a) b.wants (set b.wants b.a (get_or l k 0))) i.0 in (
+          let u : w.new.wants ≡ cond (is_leaf c' b.a) b.wants (set b.wants b.a (lent_code c' l b.a)) = r.1 ∙ ap (λ k. cond (is_leaf c' b.a) b.wants (set b.wants b.a (get_or l k 0))) i.0 in (
             rw (add-one, below_suc c' b.a, ← i.0) r.0,
             rw (add-one, u) (wanted_more c' b.a l b.wants (omega (arith, p, b.invariant.2)) i.1),
             rw (add-one, r.2) (unfound_more c' b.a b.memory c.state_count-n.result (omega (arith, q, b.invariant.3)) i.2 i.3),

@@ -10,9 +10,9 @@ use Rattle.chart_state_read.specs.Codes.{Wanted}
 use Rattle.chart_state_read.proofs.want_all.Given as goal
 
 abbrev pub invariant-loop-a : goal.invariant-loop-a
-invariant-loop-a l = (l.a ≤ l.initial.memory) × (l.at ≤ l.a) × (length l.wants ≡ length l.n) × (length l.memory ≡ length l.initial.wants)
-    × ((c : Tables) → c.states ≡ l.states → Rules c → state_count c ≤ length l.n → state_count c ≤ length l.initial.wants → ((s : ℕ) → get_or l.initial.wants s 0 ≡ 0)
-    → (l.at ≡ super_states_below c l.a) × Wanted c l.state l.a l.wants × ((j : ℕ) → j < l.a → get_or l.memory j 0 ≡ cond (is_leaf c j) 0 l.initial.memory) × ((j : ℕ) → l.a ≤ j → get_or l.memory j 0 ≡ 0))
+invariant-loop-a l = (l.a ≤ l.n) × (l.at ≤ l.a) × (length l.wants ≡ length l.initial.wants) × (length l.memory ≡ length l.initial.memory)
+    × ((c : Tables) → c.states ≡ l.states → Rules c → state_count c ≤ length l.initial.wants → state_count c ≤ length l.initial.memory → ((s : ℕ) → get_or l.initial.memory s 0 ≡ 0)
+    → (l.at ≡ super_states_below c l.a) × Wanted c l.state l.a l.wants × ((j : ℕ) → j < l.a → get_or l.memory j 0 ≡ cond (is_leaf c j) 0 l.n) × ((j : ℕ) → l.a ≤ j → get_or l.memory j 0 ≡ 0))
 
 abbrev pub decreases-loop-a : goal.decreases-loop-a
-decreases-loop-a l = l.initial.memory - l.a
+decreases-loop-a l = l.n - l.a

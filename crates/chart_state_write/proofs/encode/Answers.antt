@@ -19,7 +19,7 @@ pub write_timers-requires : goal.write_timers-requires
 write_timers-requires c = (omega (arith, c.write_codes-at.ensures.0), omega (arith, c.if-presets-gt-TIMERS.false))
 
 pub shape_of-state : goal.shape_of-state
-shape_of-state c = c.write_timers.auto.1.1.1.0 ∙ c.write_codes-at.auto.1.1.1.0
+shape_of-state c = c.write_timers.auto.state ∙ c.write_codes-at.auto.state
 
 pub returns : goal.returns
 unfolding lent_of lent_length timer_count
@@ -28,8 +28,8 @@ returns c c' e g R C lt v h =
     let n : length c'.presets ≡ length a.presets.now = ap length g in
     let S = valid_sound c' R (held c' a.memory.now a.timers.now) v in
     let w = c.write_codes-at.ensures.1 c' e R (omega (arith, h)) in
-    let mid = c.write_codes-at.auto.1.1.1.0 in
+    let mid = c.write_codes-at.auto.state in
     let at-is = w.0 in
     let t = c.write_timers.ensures (omega (arith, lt, c.if-presets-gt-TIMERS.false)) (omega (arith, h, n, mid, at-is)) in
-    sym (take_all (c.write_codes-at.result + length a.presets.now) c.write_timers.new.1.1.1.0 (omega (arith, h, n, mid, at-is, c.write_timers.auto.1.1.1.0)))
+    sym (take_all (c.write_codes-at.result + length a.presets.now) c.write_timers.new.state (omega (arith, h, n, mid, at-is, c.write_timers.auto.state)))
     ∙ t ∙ ap₂ ◌++◌ (w.1 ∙ codes_lent c' R a.memory.now a.codes.now C S) (ap (λ k. take k a.timers.now) (sym n))

@@ -21,7 +21,7 @@ returns-then-initial-eq0 c = (
 )
 
 pub shape_of-state : goal.shape_of-state
-shape_of-state c = c.put_value.auto.0
+shape_of-state c = c.put_value.auto.values
 
 pub returns : goal.returns
 returns c = (

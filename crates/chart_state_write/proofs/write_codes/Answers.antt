@@ -24,7 +24,7 @@ loop-a-preserved c =
     let w = c.write_code-at in (
       omega arith,
       omega (arith, w.ensures.0),
-      w.auto.1.1.1.1.1.0 ∙ b.invariant.2,
+      w.auto.state ∙ b.invariant.2,
       λ c' e R h.
           let i = b.invariant.3 c' e R h in
           let k : b.a < state_count c' = omega (arith, n.1 c' e R) in

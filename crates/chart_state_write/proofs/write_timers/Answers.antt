@@ -18,7 +18,7 @@ loop-i-preserved c =
     let a = c.args in
     let v = c.value.result in (
       omega arith,
-      c.put_value.auto.0 ∙ b.invariant.1,
+      c.put_value.auto.values ∙ b.invariant.1,
       λ p q.
           let z : a.from + (b.i + 1) ≡ suc (a.from + b.i) = omega arith in
           rw (z, add-one, c.put_value.ensures, take-suc-set b.state (a.from + b.i) v (omega (arith, b.invariant.1)), take-suc a.timers.now b.i 0 (omega arith), ← c.value.ensures, b.invariant.2 p q)

@@ -1,5 +1,4 @@
 use native.Mathlib.Omega.{arith}
-use borrow.Author.Tests.{not-true, not-false}
 use Rattle.chart_timers.proofs.grown.Goals as goal
 
 pub returns-then-not-goes_on : goal.returns-then-not-goes_on

@@ -2,7 +2,6 @@ use mathlib.Core.Path.{◌≡◌}
 use native.Mathlib.Omega.{arith}
 use mathlib.Core.Path.{refl}
 use Prim.Native.Nat.{◌-◌, ◌+◌}
-use Rattle.meaning.specs.Tables.{preset}
 use native.Mathlib.Nat.{div-mul-le_self, mul-zero}
 use Rattle.chart_timers.proofs.longest.Goals as goal
 

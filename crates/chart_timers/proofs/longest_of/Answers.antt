@@ -1,11 +1,10 @@
 use native.Mathlib.Omega.{arith}
 use mathlib.Core.Path.{refl, ◌∙◌}
-use Prim.Native.Nat.{◌-◌, ◌%◌}
+use Prim.Native.Nat.{◌%◌}
 use lib.ListN.{length-set}
 use lib.Seq.{get_or-set_same, get_or-set_other}
 use native.Mathlib.Decide.{ℕ_discrete}
 use native.Mathlib.Nat.{mod-eq_of_lt}
-use Rattle.chart_timers.specs.Times.{longest}
 use Rattle.chart_timers.proofs.longest_of.Goals as goal
 
 pub returns-then-presets-gt-TIMERS : goal.returns-then-presets-gt-TIMERS

@@ -1,6 +1,6 @@
 use native.Mathlib.Omega.{arith}
 use mathlib.Core.Path.{refl, ◌∙◌}
-use Prim.Native.Nat.{suc, ◌-◌}
+use Prim.Native.Nat.{suc}
 use lib.ListN.{get_or}
 use lib.Seq.{get_or-set_same, get_or-set_other}
 use native.Mathlib.Decide.{ℕ_discrete}
@@ -21,7 +21,7 @@ loop-i-preserved c =
     let t = c.time_row in
     let v = value_grown a.step (get_or a.most.now b.i 0) (input_on a.goes_on (suc b.i)) (get_or b.timers b.i 0) in (
       omega arith,
-      t.auto.1.1.1.1.0 ∙ b.invariant.1,
+      t.auto.timers ∙ b.invariant.1,
       λ j h k. rw t.ensures (elim (ℕ_discrete j b.i) [
         | yes x ↦ rw (x, get_or-set_same b.timers b.i v 0 (omega (arith, b.invariant.1)), b.invariant.3 b.i (omega arith))
         | no x ↦ get_or-set_other b.timers b.i j v 0 x ∙ b.invariant.2 j (omega arith) k

@@ -2,8 +2,6 @@
 use native.Mathlib.Omega.{arith}
 use native.Mathlib.Numerals.{add-one}
 use mathlib.Core.Path.{refl, sym, ◌∙◌}
-use Prim.Native.Nat.{◌-◌}
-use borrow.Author.Tests.{not-true, not-false}
 use Rattle.check_needs.specs.WordsLaws.{apart_skip, apart_here, apart_end}
 use Rattle.check_needs.proofs.first_apart.Goals as goal
 

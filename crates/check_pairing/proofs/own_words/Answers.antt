@@ -1,7 +1,7 @@
 use native.Mathlib.Omega.{arith}
 use native.Mathlib.Numerals.{add-one}
 use mathlib.Core.Path.{◌≡◌, refl, ap, ◌∙◌}
-use Prim.Native.Nat.{◌-◌, ◌/◌}
+use Prim.Native.Nat.{◌/◌}
 use lib.ListN.{length}
 use Rattle.meaning.specs.Rows.{some}
 use Rattle.meaning.specs.Laws.Rows.{some_more}
@@ -21,7 +21,7 @@ loop-i-preserved c =
     let b = c.loop-i in
     let f = c.add_row in (
       omega arith,
-      f.auto.1.1.0 ∙ b.invariant.1,
+      f.auto.words ∙ b.invariant.1,
       λ z n l h k g. rw (add-one, some_more (row_at a.pairs.now n l) b.i, ← b.invariant.2 z n l h k g) (f.ensures n l h k (omega (arith, b.invariant.1))),
     )
 

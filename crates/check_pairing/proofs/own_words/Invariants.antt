@@ -8,7 +8,7 @@ use Rattle.check_pairing.proofs.own_words.Given as goal
 
 abbrev pub invariant-loop-i : goal.invariant-loop-i
 invariant-loop-i l = (l.i ≤ length l.pairs / 2) × (length l.words ≡ length l.initial.words)
-    × (Clear l.initial.words → (n l : ℕ) → 1 ≤ n → n ≤ 64 → l < length l.initial.words → input_on (get_or l.words l 0) n ≡ some (row_at l.pairs n l) 0 l.i)
+    × (Clear l.initial.words → (n s : ℕ) → 1 ≤ n → n ≤ 64 → s < length l.initial.words → input_on (get_or l.words s 0) n ≡ some (row_at l.pairs n s) 0 l.i)
 
 abbrev pub decreases-loop-i : goal.decreases-loop-i
 decreases-loop-i l = length l.pairs / 2 - l.i

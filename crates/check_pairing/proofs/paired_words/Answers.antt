@@ -1,13 +1,13 @@
 use native.Mathlib.Omega.{arith}
 use mathlib.Core.Path.{refl, ◌∙◌}
-use Prim.Native.Nat.{suc, ◌<◌, ◌-◌}
+use Prim.Native.Nat.{suc, ◌<◌}
 use Rattle.meaning.specs.Tables.{state_count}
 use Rattle.tables.specs.Given.{state_count_lem}
 use Rattle.check_pairing.specs.WordsLaws.{root_done, inherited}
 use Rattle.check_pairing.proofs.paired_words.Goals as goal
 
 pub loop-s-init : goal.loop-s-init
-loop-s-init c = (omega arith, refl, λ c' e t m o. root_done c' c.args.pairs.now c.own_words.new.1.0 t m o)
+loop-s-init c = (omega arith, refl, λ c' e t m o. root_done c' c.args.pairs.now c.own_words.new.words t m o)
 
 pub loop-s-preserved : goal.loop-s-preserved
 loop-s-preserved c =
@@ -15,7 +15,7 @@ loop-s-preserved c =
     let a = c.args in
     let f = c.inherit in (
       omega (arith, b.invariant.0),
-      f.auto.1.1.0 ∙ b.invariant.1,
+      f.auto.words ∙ b.invariant.1,
       λ c' e t m o.
           let n = state_count_lem c' a.states.now e in
           let k : b.s < state_count c' = omega arith in
@@ -24,11 +24,11 @@ loop-s-preserved c =
     )
 
 pub shape_of-words : goal.shape_of-words
-shape_of-words c = c.loop-s.invariant.1 ∙ c.own_words.auto.1.0
+shape_of-words c = c.loop-s.invariant.1 ∙ c.own_words.auto.words
 
 pub returns : goal.returns
 returns c c' e t m z l n g k =
     let b = c.loop-s in
     let f = c.own_words in
     let d = state_count_lem c' _ e in
-    (b.invariant.2 c' e t (omega (arith, f.auto.1.0, m)) (f.ensures z)).0 (suc n) l (omega arith) (omega arith) (omega arith) g
+    (b.invariant.2 c' e t (omega (arith, f.auto.words, m)) (f.ensures z)).0 (suc n) l (omega arith) (omega arith) (omega arith) g

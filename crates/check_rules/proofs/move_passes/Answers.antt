@@ -1,5 +1,4 @@
 use mir.Syntax.{w16}
-use borrow.Author.Tests.{not-true, not-false}
 use Rattle.check_rules.specs.Parts.{below_same}
 use Rattle.tables.specs.Given.{state_count_lem}
 use Rattle.meaning.specs.Check.{move_passes}

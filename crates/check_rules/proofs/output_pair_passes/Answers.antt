@@ -5,4 +5,4 @@ use Rattle.check_rules.proofs.output_pair_passes.Goals as goal
 pub returns : goal.returns
 returns c c' d e =
     let a = c.args in
-    c.pair_passes.ensures c' e ∙ ap (λ n. pair_passes c' n a.output-pairs.now a.i) (sym d)
+    c.pair_passes.ensures c' e ∙ ap (λ n. pair_passes c' n a.output_pairs.now a.i) (sym d)

@@ -26,7 +26,7 @@ returns-then-timer_pairs-gt-PAIRS c =
       le-leb a.states 256 (omega arith),
       le-leb a.moves 512 (omega arith),
       le-leb a.timers 32 (omega arith),
-      lt-leb a.timer-pairs 2048 (omega arith),
+      lt-leb a.timer_pairs 2048 (omega arith),
     )
 
 pub returns : goal.returns
@@ -37,5 +37,5 @@ returns c =
       le-leb a.states 256 (omega arith),
       le-leb a.moves 512 (omega arith),
       le-leb a.timers 32 (omega arith),
-      le-leb a.timer-pairs 2048 (omega arith),
+      le-leb a.timer_pairs 2048 (omega arith),
     )

@@ -18,7 +18,7 @@ returns-then-timer_pairs-ne0 c =
     rw (
       eq-eqb (length a.states.now % 2) 0 c.if-states-ne0.false,
       eq-eqb (length a.moves.now % move_row) 0 c.if-moves-ne0.false,
-      ne_eqb (length a.timer-pairs.now % 2) 0 c.if-timer_pairs-ne0.true,
+      ne_eqb (length a.timer_pairs.now % 2) 0 c.if-timer_pairs-ne0.true,
     )
 
 pub returns : goal.returns
@@ -27,5 +27,5 @@ returns c =
     rw (
       eq-eqb (length a.states.now % 2) 0 c.if-states-ne0.false,
       eq-eqb (length a.moves.now % move_row) 0 c.if-moves-ne0.false,
-      eq-eqb (length a.timer-pairs.now % 2) 0 c.if-timer_pairs-ne0.false,
+      eq-eqb (length a.timer_pairs.now % 2) 0 c.if-timer_pairs-ne0.false,
     )
