@@ -3,7 +3,6 @@ use Prim.Native.Nat.{suc, ◌+◌, ◌-◌}
 use native.Mathlib.Omega.{arith}
 use Rattle.meaning.specs.Tables.{initial}
 use Rattle.meaning.specs.Written.{group_bits, bit_store, initial_stores}
-use Rattle.write_bits.specs.Sent.{laid}
 use Rattle.write_bits.specs.SentLaws.{put_lines, put_nil}
 use Rattle.write_rungs.specs.RungLaws.{group_put, at_leaf, at_super}
 use Rattle.write_rungs.proofs.put_initials.Goals as goal

@@ -2,7 +2,7 @@ use mathlib.Core.Path.{◌≡◌}
 use mathlib.Core.List.{List}
 use Prim.Native.Nat.{ℕ, ◌-◌, ◌≤◌, ◌<◌}
 use lib.ListN.{length}
-use Rattle.meaning.specs.Tables.{Tables, state_count, initial}
+use Rattle.meaning.specs.Tables.{Tables, state_count}
 use Rattle.meaning.specs.Hierarchy.{depth}
 use Rattle.meaning.specs.Written.{initial_stores}
 use Rattle.write_lines.specs.Fit.{PutIfRoom}

@@ -10,7 +10,6 @@ use Rattle.meaning.specs.Written.{state_tests, literal_tests, chain}
 use Rattle.write_bits.specs.SentLaws.{put_lines, put_nil, sent_sent, chain_put, state_tests_lem}
 use Rattle.write_rungs.specs.Rungs.{stores_of, is_nil}
 use Rattle.write_rungs.specs.RungLaws.{move_none, move_lines}
-use borrow.Author.Rules.{rules}
 use Rattle.write_rungs.proofs.put_move.Goals as goal
 
 pub returns-then-sets_none : goal.returns-then-sets_none

@@ -1,6 +1,6 @@
 use mathlib.Core.Path.{◌≡◌}
 use mathlib.Core.List.{flat_map}
-use Prim.Native.Nat.{◌+◌, ◌-◌, ◌<◌}
+use Prim.Native.Nat.{◌+◌, ◌<◌}
 use native.Mathlib.Numerals.{add-one}
 use native.Mathlib.Omega.{arith}
 use Rattle.meaning.specs.Rows.{table}

@@ -10,7 +10,6 @@ use Rattle.write_bits.specs.SentLaws.{put_lines, put_line}
 use Rattle.write_rungs.specs.SectionLaws.{output_pairs_lem, output_lines}
 use Rattle.format.specs.Text.{line, operator_text}
 use Rattle.write_lines.specs.Fit.{fit_fit}
-use borrow.Author.Rules.{rules}
 use Rattle.write_rungs.proofs.put_output.Goals as goal
 
 pub returns : goal.returns

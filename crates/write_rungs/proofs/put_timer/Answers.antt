@@ -7,7 +7,6 @@ use Rattle.meaning.specs.Written.{pairs_body}
 use Rattle.write_bits.specs.SentLaws.{put_lines}
 use Rattle.write_rungs.specs.Rungs.{call_of}
 use Rattle.write_rungs.specs.SectionLaws.{timer_pairs_lem, timer_lines}
-use borrow.Author.Rules.{rules}
 use Rattle.write_rungs.proofs.put_timer.Goals as goal
 
 pub returns : goal.returns
