@@ -1,7 +1,7 @@
 -- The tests of LITERAL by what the places before need.
 use Rattle.std.specs.Prelude.{◌≡◌, refl, ◌≢◌, ℕ, suc, ◌+◌, ◌<◌, ◌≤◌, Bool, ◌&&◌, ◌||◌, nat_abs}
 use Rattle.std.proofs.Math.Path.{sym, ap₂}
-use Rattle.std.proofs.Common.{ap, ◌∙◌, arith, true≢false}
+use Rattle.std.proofs.Common.{ap, ◌∙◌, arith}
 use Rattle.std.proofs.Math.Logic.{inl, inr}
 use Rattle.std.proofs.Math.Bool.{true, false, not, and-false, or-false}
 use Rattle.std.proofs.Math.Dec.{eqb}

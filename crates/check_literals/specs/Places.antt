@@ -9,7 +9,6 @@ use Rattle.meaning.specs.Check.{literal_passes}
 use Rattle.meaning.specs.declared.Kind.{Kind}
 use Rattle.meaning.specs.declared.Kind.TheVariants.{Unused, Input, Timer, Unknown}
 use Rattle.check_needs.specs.declared.ThingWords.{ThingWords}
-use Rattle.check_needs.specs.declared.Needs.{Needs}
 use Rattle.check_needs.specs.Words.{WordBits, NeedWords}
 use Rattle.check_literals.specs.declared.MoveNeeds.{MoveNeeds}
 

@@ -1,6 +1,6 @@
 -- A pair of moves by their words and their sources, and the least earlier one that overlaps.
-use Rattle.std.specs.Prelude.{◌≡◌, ℕ, suc, ◌+◌, ◌/◌, ◌<◌, Bool, true, false, not, ◌&&◌, ◌||◌, List, eqb, length}
-use Rattle.std.proofs.Common.{sym, ap, ◌∙◌, inl, inr, arith, zero-add, eq-eqb, ne_eqb, lt-ltb}
+use Rattle.std.specs.Prelude.{◌≡◌, ℕ, suc, ◌/◌, ◌<◌, Bool, true, false, ◌||◌, List, eqb, length}
+use Rattle.std.proofs.Common.{sym, ◌∙◌, inl, inr, arith, zero-add, eq-eqb, ne_eqb, lt-ltb}
 use Rattle.std.proofs.Math.Bool.{and-false}
 use Rattle.meaning.specs.Rows.{least, some}
 use Rattle.meaning.specs.Laws.Rows.{which, some_yes, some_no, least_none, least_before, not_both}

@@ -255,7 +255,7 @@ fn judge_states(
     )
 }
 
-// need_words and 5: what the timers are, and what is paired with them.
+// 4 and 5: what the timers are, and what is paired with them.
 fn judge_presets(
     chart: Chart,
     states: &[u16],

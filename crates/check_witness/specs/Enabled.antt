@@ -1,6 +1,6 @@
 -- The witness of an OVERLAP: in its state and in every leaf below, with on what it says to be on and off what it says to
 -- be off, both moves are enabled; and there is such a setting.
-use Rattle.std.specs.Prelude.{◌≡◌, ◌⊎◌, Bool, not, ◌||◌}
+use Rattle.std.specs.Prelude.{◌≡◌, ◌⊎◌, Bool, ◌||◌}
 use Rattle.std.proofs.Math.Path.{refl, sym, ap}
 use Rattle.std.proofs.Common.{◌∙◌}
 use Rattle.std.proofs.Math.Logic.{inl, inr}
@@ -15,14 +15,14 @@ use Rattle.meaning.specs.Laws.Needs.{Fits, holds_fits, fits_holds, inputs_known,
 use Rattle.meaning.specs.Laws.Overlap.{both_hold, overlaps_tells, place_known}
 use Rattle.meaning.specs.Tables.{Tables, literal_places, state_count, move_count, super_state, source}
 use Rattle.meaning.specs.Hierarchy.{up, at_or_above}
-use Rattle.meaning.specs.Literals.{Setting, input_on, literals_hold}
-use Rattle.meaning.specs.Needs.{needs_on, needs_off, needed_by, clash, union, both_on, both_off, just_on, lower}
-use Rattle.meaning.specs.Rules.{AtOrAbove, HierarchyRule, Overlap}
+use Rattle.meaning.specs.Literals.{Setting, input_on}
+use Rattle.meaning.specs.Needs.{needs_on, needs_off, needed_by, clash, both_on, both_off, just_on, lower}
+use Rattle.meaning.specs.Rules.{AtOrAbove, Overlap}
 use Rattle.meaning.specs.Check.{overlaps, earlier, verdict}
 use Rattle.meaning.specs.Machine.{enabled}
 use Rattle.meaning.specs.declared.Refusal.TheVariants as R
 use Rattle.meaning.specs.declared.Verdict.TheVariants.{Refused}
-use Rattle.check_tree.specs.Falling.{Falling, falling, falls}
+use Rattle.check_tree.specs.Falling.{falling, falls}
 use Rattle.check_witness.specs.declared.Witness.{Witness}
 use Rattle.check_witness.specs.Shown.{Witnessed}
 use Rattle.check_witness.specs.Passed.{Passed, overlap_known}

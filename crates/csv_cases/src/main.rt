@@ -4,7 +4,9 @@
 
 use csv_cursor::Reader;
 use csv_records::RecordsAnswer;
-use libc::{STDIN_FILENO, STDOUT_FILENO};
+use std::alloc::{AllocError, Global};
+use std::io;
+use std::io::{Read, Write};
 
 fn reader_of(letter: u8) -> Reader {
     match letter {
@@ -29,110 +31,86 @@ fn byte_of(b: u8) -> u8 {
     }
 }
 
-// The file that a line stands for, as far as it has room.
-fn decode(line: &[u8], file: &mut [u8]) {
-    let mut i = 0;
-    while i < line.len() {
-        if file.len() <= i {
-            return;
-        }
-        file[i] = byte_of(line[i]);
-        i += 1;
-    }
+// The file that a line stands for.
+fn decode(alloc: Global, line: &[u8]) -> Result<Vec<u8>, AllocError> {
+    line.iter().map(|b| byte_of(*b)).collect(alloc)
 }
 
 // The file, a byte a call.
 fn one_by_one(r: Reader, file: &[u8], out: &mut [u64]) -> Reader {
     let mut s = r;
-    let mut i = 0;
-    while i < file.len() {
-        let e = i + 1;
-        s = csv_records::feed(s, &file[i..e], out);
-        i = e;
+    for b in file {
+        s = csv_records::feed(s, &[*b], out);
     }
     s
 }
 
-fn print_number(n: u64) {
-    io::write_all(STDOUT_FILENO, b" ");
-    io::print_decimal(STDOUT_FILENO, n);
+fn print_number(rt: &impl Print, n: u64) -> io::Result<()> {
+    print!(rt; " {n}")
 }
 
-fn print_numbers(out: &[u64]) {
-    let mut i = 0;
-    while i < out.len() {
-        print_number(out[i]);
-        i += 1;
+fn print_numbers(rt: &impl Print, out: &[u64]) -> io::Result<()> {
+    for n in out {
+        print_number(rt, *n)?;
     }
+    Ok(())
 }
 
 // What the reader answers; of rows all that out has then, the rest of it too.
-fn print_answer(a: RecordsAnswer, out: &[u64]) {
+fn print_answer(rt: &impl Print, a: RecordsAnswer, out: &[u64]) -> io::Result<()> {
     match a {
         RecordsAnswer::Rows(n) => {
-            io::write_all(STDOUT_FILENO, b"ROWS,");
-            io::print_decimal(STDOUT_FILENO, n as u64);
-            print_numbers(out);
+            print!(rt; "ROWS,{n}")?;
+            print_numbers(rt, out)
         }
         RecordsAnswer::Refused(r) => {
-            io::write_all(STDOUT_FILENO, b"REFUSED,");
-            io::print_decimal(STDOUT_FILENO, meaning::number(r) as u64);
-            io::write_all(STDOUT_FILENO, b",");
-            io::print_decimal(STDOUT_FILENO, meaning::place(r) as u64);
+            let number = meaning::number(r);
+            let place = meaning::place(r);
+            print!(rt; "REFUSED,{number},{place}")
         }
     }
 }
 
-fn whole(r: Reader, file: &[u8], out: &mut [u64]) {
-    io::write_all(STDOUT_FILENO, b" : ");
+fn whole(rt: &impl Print, r: Reader, file: &[u8], out: &mut [u64]) -> io::Result<()> {
+    print!(rt; " : ")?;
     let s = csv_records::feed(r, file, out);
     let a = csv_records::finish(s, out);
-    print_answer(a, out);
+    print_answer(rt, a, out)
 }
 
-fn split(r: Reader, file: &[u8], out: &mut [u64]) {
-    io::write_all(STDOUT_FILENO, b" : ");
+fn split(rt: &impl Print, r: Reader, file: &[u8], out: &mut [u64]) -> io::Result<()> {
+    print!(rt; " : ")?;
     let s = one_by_one(r, file, out);
     let a = csv_records::finish(s, out);
-    print_answer(a, out);
+    print_answer(rt, a, out)
 }
 
-fn both(r: Reader, file: &[u8]) {
+fn both(rt: &impl Print, r: Reader, file: &[u8]) -> io::Result<()> {
     let mut out = [7u64; 12];
-    whole(r, file, &mut out);
+    whole(rt, r, file, &mut out)?;
     let mut other = [7u64; 12];
-    split(r, file, &mut other);
-    io::write_all(STDOUT_FILENO, b"\n");
+    split(rt, r, file, &mut other)?;
+    println!(rt)
 }
 
-fn case(r: Reader, line: &[u8], file: &mut [u8]) {
-    decode(line, file);
-    let n = line.len();
-    if file.len() < n {
-        return;
-    }
-    both(r, &file[..n]);
+fn case<R: Print + AllocGlobal>(rt: &R, r: Reader, line: &[u8]) -> io::Result<()> {
+    let file = decode(rt.alloc(), line)?;
+    both(rt, r, &file)
 }
 
-fn show(line: &[u8]) {
+fn show<R: Print + AllocGlobal>(rt: &R, line: &[u8]) -> io::Result<()> {
     if line.len() == 0 {
-        return;
+        return Ok(());
     }
-    io::write_all(STDOUT_FILENO, line);
-    let mut file = [0u8; 80];
-    case(reader_of(line[0]), &line[1..], &mut file);
+    io::writer(rt).write_all(line)?;
+    case(rt, reader_of(line[0]), &line[1..])
 }
 
-fn cases(text: &[u8]) {
-    let mut start = 0;
-    let mut i = 0;
-    while i < text.len() {
-        if text[i] == 10 {
-            show(&text[start..i]);
-            start = i + 1;
-        }
-        i += 1;
+fn cases<R: Print + AllocGlobal>(rt: &R, text: &[u8]) -> io::Result<()> {
+    for line in text.split(|b| *b == b'\n') {
+        show(rt, line)?;
     }
+    Ok(())
 }
 
 fn feed_one(r: Reader, out: &mut [u64]) -> Reader {
@@ -142,41 +120,39 @@ fn feed_one(r: Reader, out: &mut [u64]) -> Reader {
 // As many records "1".
 fn feed_ones(r: Reader, count: usize, out: &mut [u64]) -> Reader {
     let mut s = r;
-    let mut i = 0;
-    while i < count {
+    for _ in 0..count {
         s = feed_one(s, out);
-        i += 1;
     }
     s
 }
 
 // They, and the bytes last, as a file of scans; no number is shown.
-fn many(count: usize, last: &[u8]) {
+fn many(rt: &impl Print, count: usize, last: &[u8]) -> io::Result<()> {
     let mut out = [7u64; 0];
     let ones = feed_ones(Reader::scans(), count, &mut out);
     let all = csv_records::feed(ones, last, &mut out);
     let a = csv_records::finish(all, &mut out);
-    print_answer(a, &out);
-    io::write_all(STDOUT_FILENO, b"\n");
+    print_answer(rt, a, &out)?;
+    println!(rt)
 }
 
 // Two places for six numbers: the counting goes on.
-fn short() {
+fn short(rt: &impl Print) -> io::Result<()> {
     let mut out = [7u64; 2];
     let s = csv_records::feed(Reader::states(), b"1,2\n3,4\n5,6", &mut out);
     let a = csv_records::finish(s, &mut out);
-    print_answer(a, &out);
-    io::write_all(STDOUT_FILENO, b"\n");
+    print_answer(rt, a, &out)?;
+    println!(rt)
 }
 
-fn main() {
-    let mut text = io::buffer();
-    let n = io::read_full(STDIN_FILENO, &mut text);
-    cases(&text[..n]);
-    many(4096, b"");
-    many(4096, b"1");
-    many(4096, b"\n");
-    many(4096, b"x\n");
-    many(4095, b"x\n");
-    short();
+fn main(rt: HostRuntime) -> io::Result<()> {
+    let mut text = Vec::new(rt.alloc());
+    rt.reader().read_to_end(&mut text)?;
+    cases(&rt, &text)?;
+    many(&rt, 4096, b"")?;
+    many(&rt, 4096, b"1")?;
+    many(&rt, 4096, b"\n")?;
+    many(&rt, 4096, b"x\n")?;
+    many(&rt, 4095, b"x\n")?;
+    short(&rt)
 }

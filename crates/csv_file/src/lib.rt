@@ -2,7 +2,7 @@
 #![tactic(auto)]
 
 ghost use Rattle.std.specs.Prelude.{◌≡◌};
-ghost use Rattle.csv_file.specs.Reads.{readerFor, rowFor, FilePassed, RecordsRead};
+ghost use Rattle.csv_file.specs.Reads.{reader_for, row_for, FilePassed, RecordsRead};
 
 use csv_cursor::Reader;
 use meaning::Refusal;
@@ -28,7 +28,7 @@ pub enum FileRead {
 }
 
 fn reader_for(file: File) -> Reader
-    ensures { result ≡ readerFor file }
+    ensures { result ≡ reader_for file }
 {
     match file {
         File::Frame => Reader::frame(),
@@ -43,7 +43,7 @@ fn reader_for(file: File) -> Reader
 
 // The fields of a record.
 fn row_for(file: File) -> usize
-    ensures { result ≡ rowFor file }
+    ensures { result ≡ row_for file }
 {
     match file {
         File::Frame => 3,

@@ -96,6 +96,10 @@ begun_live most b = elim (which (eqb b 34)) [
   | inr e ↦ rw e (elim (which (eqb b 45)) [ inl f ↦ rw f (refl, refl) | inr f ↦ rw f (grown_live most false false 0 b) ])
 ]
 
+quote_live : (q s : Bool) (n : ℕ) → Live (cond q (Closed s n) Bad)
+quote_live true s n = (refl, refl)
+quote_live false s n = (refl, refl)
+
 -- no byte within a field leads back to a record's start, or to its end
 pub after_live : (most below : ℕ) (p : FieldPhase) (b : ℕ) → Live (phase_after most below p b)
 unfolding phase_after number_after
@@ -104,7 +108,7 @@ after_live most below Empty b = begun_live most b
 after_live most below Quote b = elim (which (eqb b 45)) [ inl e ↦ rw e (refl, refl) | inr e ↦ rw e (grown_live most true false 0 b) ]
 after_live most below (Minus q) b = elim (which (eqb b 48)) [ inl e ↦ rw e (refl, refl) | inr e ↦ rw e (grown_live below q true 0 b) ]
 after_live most below (Number q s n) b = elim (which (eqb b 34)) [
-  | inl e ↦ rw e (elim q [ true ↦ (refl, refl) | false ↦ (refl, refl) ])
+  | inl e ↦ rw e (quote_live q s n)
   | inr e ↦ rw e (elim (which (eqb n 0)) [ inl f ↦ rw f (refl, refl) | inr f ↦ rw f (grown_live (cond s below most) q s n b) ])
 ]
 after_live most below (Closed s n) b = (refl, refl)

@@ -1,8 +1,5 @@
 pub mod Row
 pub mod RowLaws
-pub mod Body
-pub mod Lent
-pub mod LocalRow
 pub mod Once
 pub mod Runs
 pub mod RunLaws

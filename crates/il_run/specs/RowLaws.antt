@@ -47,7 +47,7 @@ run_start = record { flip_flops = refl; blocks = refl; results = refl }
 
 pub run_turn : {d : ℕ} {ws xs fs : List ℕ} {bs : List Block} {l : List ℕ} {i : ℕ} {l' fs' : List ℕ} {bs' : List Block} {x o : ℕ} {fs'' : List ℕ} {bs'' : List Block} {l'' : List ℕ} → i < length xs
     → x ≡ get_or xs i 0 → RowScan d x ws fs' bs' fs'' bs'' o → l'' ≡ set l' i o → RanOn d ws xs fs bs l i l' fs' bs' → RanOn d ws xs fs bs l (i + 1) l'' fs'' bs''
-unfolding run_of sets
+unfolding run_of
 run_turn {d} {ws} {xs} {fs} {bs} {l} {i} {l'} {fs'} {bs'} {x} {o} {fs''} {bs''} {l''} h e s g r =
     let c : drop i xs ≡ get_or xs i 0 ∷ drop (suc i) xs = drop-cons xs i 0 h in
     let a : run_of d ws fs' bs' (drop i xs) ≡ run_of d ws fs' bs' (x ∷ drop (suc i) xs) = rw (c, e) in
@@ -59,7 +59,7 @@ run_turn {d} {ws} {xs} {fs} {bs} {l} {i} {l'} {fs'} {bs'} {x} {o} {fs''} {bs''} 
     }
 
 pub run_end : {d : ℕ} {ws xs fs : List ℕ} {bs : List Block} {l : List ℕ} {i : ℕ} {l' fs' : List ℕ} {bs' : List Block} → RanOn d ws xs fs bs l i l' fs' bs' → length xs ≤ i → RowRun d ws xs fs bs l fs' bs' l'
-unfolding run_of sets
+unfolding run_of
 run_end {d} {ws} {xs} {i = i} {l' = l'} {fs' = fs'} {bs' = bs'} r h =
     let c : drop i xs ≡ [] = drop_of_length-le xs {i = i} h in
     let a : run_of d ws fs' bs' (drop i xs) ≡ record { flip_flops = fs'; bs = bs'; os = [] } = rw c in
@@ -72,7 +72,7 @@ run_end {d} {ws} {xs} {i = i} {l' = l'} {fs' = fs'} {bs' = bs'} r h =
 -- ---- the word of the Qs
 
 zeros : (n : ℕ) → word_of (replicate n false) ≡ 0
-unfolding word_of replicate
+unfolding word_of
 zeros zero = refl
 zeros (suc n) = rw (zeros n)
 
@@ -84,7 +84,7 @@ one_behind : (es : List Bool) (v : Bool) (cs : List Bool) → es ++ v ∷ cs ≡
 one_behind es v cs = sym (append_assoc es (v ∷ []) cs)
 
 q_from : (es : List Bool) (bs : List Block) → length es + length bs ≤ 64 → q_word (length es) bs (word_of (es ++ replicate (length bs) false)) ≡ word_of (es ++ map (λ b. b.q) bs)
-unfolding q_word replicate
+unfolding q_word
 q_from es [] h = refl
 q_from es (b ∷ bs) h =
     let n = length-append es (false ∷ replicate (length bs) false) in

@@ -22,7 +22,7 @@ use Rattle.il_times.specs.Sizes.{rungs_in, no_rungs, SizesAsked, program_asks}
 use Rattle.il_times.specs.Validity.{time_at, some_rung, few_timers_lem}
 use Rattle.il_check.specs.Judged.{StatePasses, JudgedBy, rest_of, is_accepted}
 use Rattle.il_block.specs.Called.{in_its_time}
-use Rattle.il_run.specs.Row.{in_time, RowScan, RowRun, run_of}
+use Rattle.il_run.specs.Row.{in_time, scan_of, RowScan, RowRun, run_of}
 use Rattle.il_run.specs.RowLaws.{row_scan_right, row_run_right}
 use Rattle.meaning.specs.declared.Ran.{Ran}
 use Rattle.meaning.specs.declared.Ran.TheVariants.{Done, Refused}
@@ -135,7 +135,7 @@ refused_is (G.Refused q) e = refl
 outputs_long : (d : ℕ) (ws fs : List ℕ) (bs : List Block) (xs : List ℕ) → length (run_of d ws fs bs xs).os ≡ length xs
 unfolding run_of
 outputs_long d ws fs bs [] = refl
-outputs_long d ws fs bs (x ∷ xs) = ap suc (outputs_long d ws _ _ xs)
+outputs_long d ws fs bs (x ∷ xs) = let z = scan_of d x ws fs bs in ap suc (outputs_long d ws z.flip_flops z.bs xs)
 
 -- results as long as the slice take its place
 all_set : (l r : List ℕ) → length l ≡ length r → sets l 0 r ≡ r

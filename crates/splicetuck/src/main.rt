@@ -8,20 +8,22 @@ mod message;
 use csv_cursor::Reader;
 use csv_records::RecordsAnswer;
 use csv_tables::Answers;
-use libc::STDOUT_FILENO;
 use meaning::Verdict;
 use print_text::PageKind;
+use std::env::Args;
+use std::io::{Eprint, Read};
+use std::rt::Runtime;
+use std::{env, fs, io};
 
 // What a read of a file came to.
-#[derive(Drop)]
+#[derive(Clone, Copy)]
 enum Turn {
     More(Reader),
     End(Reader),
-    Failed,
 }
 
 // What the reader of a file answered, if the file could be read.
-#[derive(Drop)]
+#[derive(Clone, Copy)]
 struct Loaded {
     read: bool,
     answer: RecordsAnswer,
@@ -42,102 +44,82 @@ fn answered(r: Reader, out: &mut [u64]) -> Loaded {
 }
 
 // One piece of the file. Keeping the loop out of it lets Rattle prove it with no proof file.
-fn feed_piece(fd: i32, path: &[u8], r: Reader, out: &mut [u64]) -> Turn {
-    let mut piece = io::buffer();
-    let got = libc::read(fd, &mut piece);
-    if got < 0 {
-        os::fail(path);
-        return Turn::Failed;
+fn feed_piece(file: &mut impl Read, r: Reader, out: &mut [u64]) -> io::Result<Turn> {
+    let mut piece = [0u8; 4096];
+    let n = file.read(&mut piece)?;
+    if n == 0 {
+        return Ok(Turn::End(r));
     }
-    if got == 0 {
-        return Turn::End(r);
-    }
-    let n = io::count(got, &piece);
-    Turn::More(csv_records::feed(r, &piece[..n], out))
+    Ok(Turn::More(csv_records::feed(r, &piece[..n], out)))
 }
 
-// The file in pieces to its end. A proved loop has to end, so it counts its turns down from a number that no run uses
-// up.
-fn feed_all(fd: i32, path: &[u8], r: Reader, out: &mut [u64]) -> Turn {
+// The file in pieces to its end. A proved loop has to end, so it counts its turns up to a number that no run reaches.
+fn feed_all(file: &mut impl Read, r: Reader, out: &mut [u64]) -> io::Result<Reader> {
     let mut s = r;
-    let mut turns = u64::MAX;
-    while turns > 0 {
-        let t = feed_piece(fd, path, s, out);
-        match t {
+    for _ in 0..u64::MAX {
+        match feed_piece(file, s, out)? {
             Turn::More(next) => {
                 s = next;
             }
             Turn::End(last) => {
-                return Turn::End(last);
-            }
-            Turn::Failed => {
-                return Turn::Failed;
+                return Ok(last);
             }
         }
-        turns -= 1;
     }
-    Turn::Failed
+    Err(io::Error::from(io::ErrorKind::Other))
 }
 
-fn finish(t: Turn, out: &mut [u64]) -> Loaded {
-    match t {
-        Turn::End(last) => answered(last, out),
-        Turn::More(_) => failed(),
-        Turn::Failed => failed(),
-    }
+// Trouble with a file: one line in words.
+fn fail(rt: &impl Eprint, path: &str, error: io::Error) -> io::Result<Loaded> {
+    eprintln!(rt; "{path}: {error}")?;
+    Ok(failed())
 }
 
 // "a missing one is empty"; one that is there and cannot be read is no refusal.
-fn load_at(path: &[u8], r: Reader, out: &mut [u64]) -> Loaded {
-    let fd = os::open_read(path);
-    if fd < 0 {
-        if os::errno() == libc::ENOENT {
-            return answered(r, out);
+fn load_at<R: Runtime>(rt: &R, path: &str, r: Reader, out: &mut [u64]) -> io::Result<Loaded> {
+    match fs::open(rt, path) {
+        Ok(mut file) => match feed_all(&mut file, r, out) {
+            Ok(last) => Ok(answered(last, out)),
+            Err(error) => fail(rt, path, error),
+        },
+        Err(error) => {
+            if error.kind() == io::ErrorKind::NotFound {
+                return Ok(answered(r, out));
+            }
+            fail(rt, path, error)
         }
-        os::fail(path);
-        return failed();
     }
-    let t = feed_all(fd, path, r, out);
-    libc::close(fd);
-    finish(t, out)
-}
-
-// The file whose path is the first n bytes.
-fn load_in(path: &[u8], n: usize, r: Reader, out: &mut [u64]) -> Loaded {
-    if path.len() < n {
-        message::say(b"splicetuck: the folder's name is too long\n");
-        return failed();
-    }
-    load_at(&path[..n], r, out)
 }
 
 // The file of that name in the folder, unless one before it could not be read.
-fn load(before: bool, folder: &[u8], name: &[u8], r: Reader, out: &mut [u64]) -> Loaded {
+fn load<R: Runtime>(
+    rt: &R,
+    before: bool,
+    folder: &str,
+    name: &str,
+    r: Reader,
+    out: &mut [u64],
+) -> io::Result<Loaded> {
     if !before {
-        return failed();
+        return Ok(failed());
     }
-    let mut path = [0u8; 8192];
-    let p = write_lines::put_bytes(&mut path, 0, folder);
-    let q = write_lines::put(&mut path, p, b'/');
-    let n = write_lines::put_bytes(&mut path, q, name);
-    load_in(&path, n, r, out)
+    let path = format!(in rt.alloc(); "{folder}/{name}")?;
+    load_at(rt, path.as_str(), r, out)
 }
 
 // The first n bytes to standard output.
-fn write_front(out: &[u8], n: usize) -> bool {
+fn write_front(rt: &impl Runtime, out: &[u8], n: usize) -> io::Result<bool> {
     if out.len() < n {
-        message::say(b"splicetuck: too long to print\n");
-        return false;
+        eprintln!(rt; "splicetuck: too long to print")?;
+        return Ok(false);
     }
-    if !io::write_all(STDOUT_FILENO, &out[..n]) {
-        os::fail(b"splicetuck: standard output");
-        return false;
-    }
-    true
+    rt.write_all(&out[..n])?;
+    Ok(true)
 }
 
 // What is printed, and why nothing else is.
 fn show(
+    rt: &impl Runtime,
     page: PageKind,
     answers: Answers,
     frame: &[u64; 3],
@@ -147,7 +129,7 @@ fn show(
     timer_pairs: &[u64; 4098],
     output_pairs: &[u64; 4098],
     scans: &[u64; 4096],
-) {
+) -> io::Result<()> {
     // More than the most that is printed on either page (`page_room` in print_text/specs/Lengths.antt).
     let mut out = [0u8; 327680];
     let p = print_text::print(
@@ -163,18 +145,18 @@ fn show(
         &mut out,
     );
     let n = p.length;
-    if !write_front(&out, n) {
-        return;
+    if !write_front(rt, &out, n)? {
+        return Ok(());
     }
     let v = p.verdict;
     match v {
-        Verdict::Accepted => {}
-        Verdict::Refused(r) => message::refusal(r, answers),
+        Verdict::Accepted => Ok(()),
+        Verdict::Refused(r) => message::refusal(rt, r, answers),
     }
 }
 
 // What the readers of the first four files answered, if these could be read.
-#[derive(Drop)]
+#[derive(Clone, Copy)]
 struct First {
     read: bool,
     frame: RecordsAnswer,
@@ -183,75 +165,81 @@ struct First {
     presets: RecordsAnswer,
 }
 
-#[derive(Drop)]
+#[derive(Clone, Copy)]
 enum LoadedAll {
     Read(Answers),
     Failed,
 }
 
-fn load_first(
-    folder: &[u8],
+fn load_first<R: Runtime>(
+    rt: &R,
+    folder: &str,
     frame: &mut [u64; 3],
     states: &mut [u64; 514],
     moves: &mut [u64; 5643],
     presets: &mut [u64; 33],
-) -> First {
-    let f = load(true, folder, b"frame.csv", Reader::frame(), frame);
-    let s = load(f.read, folder, b"states.csv", Reader::states(), states);
-    let m = load(s.read, folder, b"moves.csv", Reader::moves(), moves);
-    let d = load(m.read, folder, b"presets.csv", Reader::presets(), presets);
-    let frame_answer = f.answer;
-    let states_answer = s.answer;
-    let moves_answer = m.answer;
-    let presets_answer = d.answer;
-    First {
+) -> io::Result<First> {
+    let f = load(rt, true, folder, "frame.csv", Reader::frame(), frame)?;
+    let s = load(rt, f.read, folder, "states.csv", Reader::states(), states)?;
+    let m = load(rt, s.read, folder, "moves.csv", Reader::moves(), moves)?;
+    let d = load(
+        rt,
+        m.read,
+        folder,
+        "presets.csv",
+        Reader::presets(),
+        presets,
+    )?;
+    Ok(First {
         read: d.read,
-        frame: frame_answer,
-        states: states_answer,
-        moves: moves_answer,
-        presets: presets_answer,
-    }
+        frame: f.answer,
+        states: s.answer,
+        moves: m.answer,
+        presets: d.answer,
+    })
 }
 
-fn load_rest(
-    folder: &[u8],
+fn load_rest<R: Runtime>(
+    rt: &R,
+    folder: &str,
     first: First,
     timers: &mut [u64; 4098],
     outputs: &mut [u64; 4098],
     scans: &mut [u64; 4096],
-) -> LoadedAll {
+) -> io::Result<LoadedAll> {
     let t = load(
+        rt,
         first.read,
         folder,
-        b"timerpairs.csv",
+        "timerpairs.csv",
         Reader::pairs(),
         timers,
-    );
-    let o = load(t.read, folder, b"outputpairs.csv", Reader::pairs(), outputs);
-    let x = load(o.read, folder, b"scans.csv", Reader::scans(), scans);
+    )?;
+    let o = load(
+        rt,
+        t.read,
+        folder,
+        "outputpairs.csv",
+        Reader::pairs(),
+        outputs,
+    )?;
+    let x = load(rt, o.read, folder, "scans.csv", Reader::scans(), scans)?;
     if !x.read {
-        return LoadedAll::Failed;
+        return Ok(LoadedAll::Failed);
     }
-    let frame = first.frame;
-    let states = first.states;
-    let moves = first.moves;
-    let presets = first.presets;
-    let timer_pairs = t.answer;
-    let output_pairs = o.answer;
-    let scans_answer = x.answer;
-    LoadedAll::Read(Answers {
-        frame,
-        states,
-        moves,
-        presets,
-        timer_pairs,
-        output_pairs,
-        scans: scans_answer,
-    })
+    Ok(LoadedAll::Read(Answers {
+        frame: first.frame,
+        states: first.states,
+        moves: first.moves,
+        presets: first.presets,
+        timer_pairs: t.answer,
+        output_pairs: o.answer,
+        scans: x.answer,
+    }))
 }
 
 // A row more is kept of each table than its limit, so that the check itself says SIZE.
-fn run(page: PageKind, folder: &[u8]) {
+fn run<R: Runtime>(rt: &R, page: PageKind, folder: &str) -> io::Result<()> {
     let mut frame = [0u64; 3];
     let mut states = [0u64; 514];
     let mut moves = [0u64; 5643];
@@ -259,18 +247,27 @@ fn run(page: PageKind, folder: &[u8]) {
     let mut timer_pairs = [0u64; 4098];
     let mut output_pairs = [0u64; 4098];
     let mut scans = [0u64; 4096];
-    let first = load_first(folder, &mut frame, &mut states, &mut moves, &mut presets);
+    let first = load_first(
+        rt,
+        folder,
+        &mut frame,
+        &mut states,
+        &mut moves,
+        &mut presets,
+    )?;
     let r = load_rest(
+        rt,
         folder,
         first,
         &mut timer_pairs,
         &mut output_pairs,
         &mut scans,
-    );
+    )?;
     let LoadedAll::Read(answers) = r else {
-        return;
+        return Ok(());
     };
     show(
+        rt,
         page,
         answers,
         &frame,
@@ -280,71 +277,63 @@ fn run(page: PageKind, folder: &[u8]) {
         &timer_pairs,
         &output_pairs,
         &scans,
-    );
+    )
 }
 
 // A folder that is not there is no folder of missing files.
-fn start(page: PageKind, folder: &[u8]) {
-    let fd = os::open_read(folder);
-    if fd < 0 {
-        os::fail(folder);
-        return;
+fn start<R: Runtime>(rt: &R, page: PageKind, folder: &str) -> io::Result<()> {
+    match fs::open(rt, folder) {
+        Ok(_) => run(rt, page, folder),
+        Err(error) => eprintln!(rt; "{folder}: {error}"),
     }
-    libc::close(fd);
-    run(page, folder);
 }
 
-fn usage() {
-    message::say(b"usage: splicetuck [--needs] [FOLDER]\n");
+fn usage(rt: &impl Eprint) -> io::Result<()> {
+    eprintln!(rt; "usage: splicetuck [--needs] [FOLDER]")
 }
 
 // A folder whose name begins with - can be given as ./-name.
-fn is_option(word: &[u8]) -> bool {
-    if word.len() == 0 {
-        return false;
-    }
-    word[0] == b'-'
+fn is_option(word: &str) -> bool {
+    word.starts_with('-')
 }
 
-fn start_named(page: PageKind, folder: &[u8]) {
+fn start_named<R: Runtime>(rt: &R, page: PageKind, folder: &str) -> io::Result<()> {
     if is_option(folder) {
-        usage();
-        return;
+        return usage(rt);
     }
-    start(page, folder);
+    start(rt, page, folder)
 }
 
-// The folder is argument i, the last of count, or the one that the program is started in.
-fn start_from(page: PageKind, i: usize, count: usize) {
-    if count <= i {
-        start(page, b".");
-        return;
+// The folder is the word, if it is the last one, or the one that the program is started in.
+fn start_from<R: Runtime>(
+    rt: &R,
+    page: PageKind,
+    word: Option<String>,
+    mut rest: Args,
+) -> io::Result<()> {
+    let Some(folder) = word else {
+        return start(rt, page, ".");
+    };
+    if rest.next().is_some() {
+        return usage(rt);
     }
-    if i < count - 1 {
-        usage();
-        return;
-    }
-    let mut folder = io::buffer();
-    let n = os::arg(i, &mut folder);
-    if os::errno() != 0 {
-        os::fail(b"splicetuck: the folder's name");
-        return;
-    }
-    start_named(page, &folder[..n]);
+    start_named(rt, page, folder.as_str())
 }
 
-// Whether argument 1 is the option; of a missing or too long one nothing is kept.
-fn needs_asked() -> bool {
-    let mut word = io::buffer();
-    let n = os::arg(1, &mut word);
-    read_decimals::same(&word[..n], b"--needs")
+// Whether argument 1 is the option.
+fn needs_asked(word: &str) -> bool {
+    word == "--needs"
 }
 
-fn main() {
-    let count = os::arg_count();
-    if needs_asked() {
-        start_from(PageKind::Needs, 2, count);
-        return;
+fn main(rt: HostRuntime) -> io::Result<()> {
+    let mut words = env::args(&rt)?;
+    let _name = words.next();
+    let Some(word) = words.next() else {
+        return start(&rt, PageKind::Text, ".");
+    };
+    if needs_asked(word.as_str()) {
+        let folder = words.next();
+        return start_from(&rt, PageKind::Needs, folder, words);
     }
-    start_from(PageKind::Text, 1, count);
+    start_from(&rt, PageKind::Text, Some(word), words)
 }

@@ -1,64 +1,47 @@
 // What goes to standard error: one line in words.
 use csv_records::RecordsAnswer;
 use csv_tables::Answers;
-use libc::STDERR_FILENO;
 use meaning::Refusal;
+use std::io;
+use std::io::Eprint;
 
-pub fn say(text: &[u8]) {
-    io::write_all(STDERR_FILENO, text);
-}
-
-// The n-th part of a text, counted from 0; each part ends in ";".
-fn say_part(text: &[u8], n: u32) {
-    let mut left = n;
-    let mut from = 0;
-    let mut at = 0;
-    while at < text.len() {
-        if text[at] == b';' {
-            if left == 0 {
-                say(&text[from..at]);
-                return;
-            }
-            left -= 1;
-            from = at + 1;
-        }
-        at += 1;
+// The name of a refusal.
+fn name(r: Refusal) -> &'static str {
+    match r {
+        Refusal::Size => "SIZE",
+        Refusal::Hierarchy(_) => "HIERARCHY",
+        Refusal::Initial(_) => "INITIAL",
+        Refusal::Preset(_) => "PRESET",
+        Refusal::TimerPair(_) => "TIMER PAIR",
+        Refusal::OutputPair(_) => "OUTPUT PAIR",
+        Refusal::Move(_) => "MOVE",
+        Refusal::Literal(_) => "LITERAL",
+        Refusal::IdleTimer(_) => "IDLE TIMER",
+        Refusal::Overlap(_) => "OVERLAP",
+        Refusal::FlipFlops => "FLIP-FLOPS",
+        Refusal::Room(_) => "ROOM",
+        Refusal::Text(_) => "TEXT",
+        Refusal::State => "STATE",
+        Refusal::Scans => "SCANS",
+        Refusal::Field(_) => "FIELD",
     }
 }
 
-// By number; none has number 0.
-fn print_name(number: u32) {
-    say_part(
-        b";SIZE;HIERARCHY;INITIAL;PRESET;TIMER PAIR;OUTPUT PAIR;MOVE;LITERAL;IDLE TIMER;OVERLAP;FLIP-FLOPS;ROOM;TEXT;STATE;SCANS;FIELD;",
-        number,
-    );
-}
-
 // The files, counted from 0.
-fn print_file(file: u32) {
-    say_part(
-        b"frame.csv;states.csv;moves.csv;presets.csv;timerpairs.csv;outputpairs.csv;scans.csv;",
-        file,
-    );
-}
-
-fn print_number(n: usize) {
-    io::print_decimal(STDERR_FILENO, n as u64);
+fn file_name(file: u32) -> &'static str {
+    match file {
+        0 => "frame.csv",
+        1 => "states.csv",
+        2 => "moves.csv",
+        3 => "presets.csv",
+        4 => "timerpairs.csv",
+        5 => "outputpairs.csv",
+        _ => "scans.csv",
+    }
 }
 
 fn one_more(n: usize) -> usize {
     if n < 18446744073709551615 { n + 1 } else { n }
-}
-
-// A record is counted from 0 in the place, and from 1 as a spreadsheet shows it.
-fn print_record(file: u32, record: usize) {
-    say(b": ");
-    print_file(file);
-    say(b", record ");
-    print_number(record);
-    say(b" (row ");
-    print_number(one_more(record));
-    say(b" in a spreadsheet)");
 }
 
 // That file, if its reader refused it.
@@ -71,18 +54,12 @@ fn or_else(a: RecordsAnswer, file: u32, later: u32) -> u32 {
 
 // FIELD is of the first file that is refused.
 fn refused_file(a: Answers) -> u32 {
-    let frame = a.frame;
-    let states = a.states;
-    let moves = a.moves;
-    let presets = a.presets;
-    let timer_pairs = a.timer_pairs;
-    let output_pairs = a.output_pairs;
-    let from_outputs = or_else(output_pairs, 5, 6);
-    let from_timers = or_else(timer_pairs, 4, from_outputs);
-    let from_presets = or_else(presets, 3, from_timers);
-    let from_moves = or_else(moves, 2, from_presets);
-    let from_states = or_else(states, 1, from_moves);
-    or_else(frame, 0, from_states)
+    let from_outputs = or_else(a.output_pairs, 5, 6);
+    let from_timers = or_else(a.timer_pairs, 4, from_outputs);
+    let from_presets = or_else(a.presets, 3, from_timers);
+    let from_moves = or_else(a.moves, 2, from_presets);
+    let from_states = or_else(a.states, 1, from_moves);
+    or_else(a.frame, 0, from_states)
 }
 
 // The file whose record is the place of the refusal, or 7 where the place is none.
@@ -107,36 +84,33 @@ fn file_of(r: Refusal, refused: u32) -> u32 {
     }
 }
 
-fn print_room(length: usize) {
-    say(b": the text has ");
-    print_number(length);
-    say(b" bytes, and 65536 are the most");
+// A record is counted from 0 in the place, and from 1 as a spreadsheet shows it.
+fn print_record(rt: &impl Eprint, name: &str, file: &str, record: usize) -> io::Result<()> {
+    let row = one_more(record);
+    eprintln!(rt;
+        "splicetuck: refused, {name}: {file}, record {record} (row {row} in a spreadsheet)"
+    )
 }
 
 // What is wrong, where that is no record.
-fn print_reason(number: u32, place: usize) {
-    if number == 1 {
-        say(b": there is no state, a table has too many rows, or the frame is beyond its limits");
-    }
-    if number == 11 {
-        say(b": more than 128");
-    }
-    if number == 12 {
-        print_room(place);
+fn print_reason(rt: &impl Eprint, r: Refusal, name: &str) -> io::Result<()> {
+    match r {
+        Refusal::Size => eprintln!(rt;
+            "splicetuck: refused, {name}: there is no state, a table has too many rows, or the frame is beyond its limits"
+        ),
+        Refusal::FlipFlops => eprintln!(rt; "splicetuck: refused, {name}: more than 128"),
+        Refusal::Room(length) => eprintln!(rt;
+            "splicetuck: refused, {name}: the text has {length} bytes, and 65536 are the most"
+        ),
+        _ => eprintln!(rt; "splicetuck: refused, {name}"),
     }
 }
 
 // The line for a refusal.
-pub fn refusal(r: Refusal, a: Answers) {
-    let number = meaning::number(r);
-    let place = meaning::place(r);
+pub fn refusal(rt: &impl Eprint, r: Refusal, a: Answers) -> io::Result<()> {
     let file = file_of(r, refused_file(a));
-    say(b"splicetuck: refused, ");
-    print_name(number);
     if file < 7 {
-        print_record(file, place);
-    } else {
-        print_reason(number, place);
+        return print_record(rt, name(r), file_name(file), meaning::place(r));
     }
-    say(b"\n");
+    print_reason(rt, r, name(r))
 }

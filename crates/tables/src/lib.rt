@@ -113,12 +113,15 @@ pub fn cell(moves: &[i16], i: usize, j: usize) -> i16
     moves[from + j]
 }
 
+// The least number that has an opposite of its width.
+const LEAST_OPPOSED: i16 = -32767;
+
 // A number without its sign. "negated only after the range check so that -32,768 refuses": the least number has no
 // opposite of its width, and its size is of no kind.
 fn size(v: i16) -> u16
     ensures { result ≡ nat_abs v }
 {
-    if v < -32767 {
+    if v < LEAST_OPPOSED {
         return 32768;
     }
     if v < 0 {

@@ -56,8 +56,8 @@ module _ (m : ℕ) (P : Operand → Type 0) where
     ]
   ]
 
-no : {A : Type 0} → false ≡ true → A
-no e = absurd (false≢true e)
+never : {A : Type 0} → false ≡ true → A
+never e = absurd (false≢true e)
 
 -- ---- kept or not
 
@@ -101,13 +101,13 @@ andn = record { unpacks = λ m. refl; fits = λ o e. e; only = λ o e. inl e }
 untested : (m : ℕ) → 255 < m → (384 < m → 448 < m) → (768 < m → 800 < m) → testable 32 (operand_of m) ≡ true → ⊥
 unfolding testable
 untested m a b c =
-    by_number m (λ o. testable 32 o ≡ true → ⊥) (λ h e. omega (arith, leb-true m 255 e)) (λ h e. omega (arith, b h, (within 1 64 (m - 384) e).1)) (λ h e. no e)
-    (λ h e. omega (arith, c h, (within 1 32 (m - 768) e).1)) (λ h e. no e) (λ h e. no e) (λ h e. no e) (λ h e. no e) (λ h e. no e) (λ e. no e)
+    by_number m (λ o. testable 32 o ≡ true → ⊥) (λ h e. omega (arith, leb-true m 255 e)) (λ h e. omega (arith, b h, (within 1 64 (m - 384) e).1)) (λ h e. never e)
+    (λ h e. omega (arith, c h, (within 1 32 (m - 768) e).1)) (λ h e. never e) (λ h e. never e) (λ h e. never e) (λ h e. never e) (λ h e. never e) (λ e. never e)
 
 not_constant : (m : ℕ) → (m ≡ 2000 → ⊥) → (m ≡ 2001 → ⊥) → constant (operand_of m) ≡ true → ⊥
 unfolding constant
 not_constant m a b =
-    by_number m (λ o. constant o ≡ true → ⊥) (λ h e. no e) (λ h e. no e) (λ h e. no e) (λ h e. no e) (λ h e. no e) (λ h e. no e) (λ h e. no e) (λ h e. a h) (λ h e. b h) (λ e. no e)
+    by_number m (λ o. constant o ≡ true → ⊥) (λ h e. never e) (λ h e. never e) (λ h e. never e) (λ h e. never e) (λ h e. never e) (λ h e. never e) (λ h e. never e) (λ h e. a h) (λ h e. b h) (λ e. never e)
 
 module _ {k : ℕ} {f : Operand → Operator} (t : TestOperator k f) (m : ℕ) where
   tests : (o : Operand) → operand_of m ≡ o → testable 32 o ≡ true → Known (f o) ≡ unpacked k m
@@ -144,8 +144,8 @@ ld_true = refl
 unstored : (m : ℕ) → 255 < m → (512 < m → 576 < m) → (1024 < m → 1056 < m) → (1280 < m → 1312 < m) → operator_fits (St (operand_of m)) ≡ true → ⊥
 unfolding operator_fits flip_flop_fits output_fits parameter_fits
 unstored m a b c d =
-    by_number m (λ o. operator_fits (St o) ≡ true → ⊥) (λ h e. omega (arith, leb-true m 255 (simp or-false at e))) (λ h e. no e) (λ h e. omega (arith, b h, (within 1 64 (m - 512) (simp or-false at e)).1)) (λ h e. no e)
-    (λ h e. omega (arith, c h, (within 1 32 (m - 1024) e).1)) (λ h e. omega (arith, d h, (within 1 32 (m - 1280) e).1)) (λ h e. no e) (λ h e. no e) (λ h e. no e) (λ e. no e)
+    by_number m (λ o. operator_fits (St o) ≡ true → ⊥) (λ h e. omega (arith, leb-true m 255 (simp or-false at e))) (λ h e. never e) (λ h e. omega (arith, b h, (within 1 64 (m - 512) (simp or-false at e)).1)) (λ h e. never e)
+    (λ h e. omega (arith, c h, (within 1 32 (m - 1024) e).1)) (λ h e. omega (arith, d h, (within 1 32 (m - 1280) e).1)) (λ h e. never e) (λ h e. never e) (λ h e. never e) (λ e. never e)
 
 module _ (m : ℕ) where
   st_is : unpacked 7 m ≡ kept (St (operand_of m))
@@ -179,8 +179,8 @@ module _ (m : ℕ) where
 flip_flop_in : (m : ℕ) → flip_flop_fits (operand_of m) ≡ true → m ≤ 255
 unfolding flip_flop_fits
 flip_flop_in m =
-    by_number m (λ o. flip_flop_fits o ≡ true → m ≤ 255) (λ h e. leb-true m 255 e) (λ h e. no e) (λ h e. no e)
-    (λ h e. no e) (λ h e. no e) (λ h e. no e) (λ h e. no e) (λ h e. no e) (λ h e. no e) (λ e. no e)
+    by_number m (λ o. flip_flop_fits o ≡ true → m ≤ 255) (λ h e. leb-true m 255 e) (λ h e. never e) (λ h e. never e)
+    (λ h e. never e) (λ h e. never e) (λ h e. never e) (λ h e. never e) (λ h e. never e) (λ h e. never e) (λ e. never e)
 
 -- operator k is S or R
 pub record Acts (k : ℕ) (f : Operand → Operator) : Type 0 where
@@ -208,7 +208,7 @@ module _ {k : ℕ} {f : Operand → Operator} (t : Acts k f) (m : ℕ) where
 not_called : (m : ℕ) → (1536 < m → 1568 < m) → block_fits (operand_of m) ≡ true → ⊥
 unfolding block_fits
 not_called m a =
-    by_number m (λ o. block_fits o ≡ true → ⊥) (λ h e. no e) (λ h e. no e) (λ h e. no e) (λ h e. no e) (λ h e. no e) (λ h e. no e) (λ h e. omega (arith, a h, (within 1 32 (m - 1536) e).1)) (λ h e. no e) (λ h e. no e) (λ e. no e)
+    by_number m (λ o. block_fits o ≡ true → ⊥) (λ h e. never e) (λ h e. never e) (λ h e. never e) (λ h e. never e) (λ h e. never e) (λ h e. never e) (λ h e. omega (arith, a h, (within 1 32 (m - 1536) e).1)) (λ h e. never e) (λ h e. never e) (λ e. never e)
 
 module _ (m : ℕ) where
   cal_is : unpacked 10 m ≡ kept (Cal (operand_of m))

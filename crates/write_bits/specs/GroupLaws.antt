@@ -7,7 +7,6 @@ use Rattle.std.proofs.Math.Decide.{dec_le, ℕ_discrete}
 use Rattle.meaning.specs.Tables.{Tables, state_count, super_state}
 use Rattle.meaning.specs.Hierarchy.{up, depth}
 use Rattle.meaning.specs.Laws.Hierarchy.{sub_state_tells}
-use Rattle.meaning.specs.Layout.{code}
 use Rattle.meaning.specs.Laws.Layout.{group_fits}
 use Rattle.meaning.specs.Rules.{SubState, Rules}
 use Rattle.meaning.specs.Laws.Tree.{super_lt, depth_sub, depth_root, depth_up, up_le}

@@ -1,5 +1,5 @@
 -- Laws of Pairs.antt: in an ascending table the rows for n stand together.
-use Rattle.std.specs.Prelude.{◌≡◌, ◌≢◌, ◌⊎◌, cond, eqb}
+use Rattle.std.specs.Prelude.{◌≡◌, ◌≢◌, cond, eqb}
 use Rattle.std.proofs.Math.Path.{refl, ap}
 use Rattle.std.proofs.Common.{ap₂, ◌∙◌, ⊎_elim, eq-eqb, ne_eqb}
 use mathlib.Core.List.{List, [], ◌∷◌, ◌++◌, map, flat_map, append-nil}

@@ -1,7 +1,6 @@
 use native.Mathlib.Omega.{arith}
 use native.Mathlib.Numerals.{add-one}
 use mathlib.Core.Path.{◌≡◌, refl, ap, ◌∙◌}
-use Prim.Native.Nat.{◌-◌}
 use Rattle.tables.specs.Given.{state_count_lem}
 use Rattle.meaning.specs.Rows.{some}
 use Rattle.meaning.specs.Tables.{state_count}
@@ -19,10 +18,10 @@ loop-l-preserved c =
     let b = c.loop-l in
     let f = c.narrow_leaf in (
       omega arith,
-      f.ensures.0 ∙ b.invariant.1,
+      f.ensures.long ∙ b.invariant.1,
       λ c' r z n x p q h.
           let m = state_count_lem c' _ r.states in
-          rw (add-one, every_more (leaf_runs c' n x) b.l, ← b.invariant.2 c' r z n x p q h) (f.ensures.1 c' r (omega arith) n x p q (omega (arith, b.invariant.1))),
+          rw (add-one, every_more (leaf_runs c' n x) b.l, ← b.invariant.2 c' r z n x p q h) (f.ensures.n_after c' r (omega arith) n x p q (omega (arith, b.invariant.1))),
     )
 
 pub shape_of-words : goal.shape_of-words

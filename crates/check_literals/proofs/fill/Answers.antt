@@ -1,7 +1,7 @@
 -- After i moves their words are in the slice.
 use native.Mathlib.Omega.{arith}
 use mathlib.Core.Path.{refl, ◌∙◌}
-use Prim.Native.Nat.{◌<◌, ◌-◌, ◌/◌}
+use Prim.Native.Nat.{◌<◌, ◌/◌}
 use native.Mathlib.Numerals.{add-one}
 use lib.ListN.{length}
 use Rattle.meaning.specs.Tables.{move_count}
@@ -17,12 +17,12 @@ loop-i-preserved c =
     let b = c.loop-i in
     let w = c.literal_passes in (
       omega arith,
-      w.ensures.0 ∙ b.invariant.1,
+      w.ensures.long ∙ b.invariant.1,
       λ c' p q e l long.
           let n = move_count_lem c' _ e in
           let m : b.i < move_count c' = omega (arith, n, c.loop-i-test.true) in
           let g : b.i < length b.words / need_words = omega (arith, b.invariant.1, m, long) in
-          let t = w.ensures.1 c' p q e in
+          let t = w.ensures.value c' p q e in
           rw add-one (t.1 (t.0 ∙ l b.i m) g (b.invariant.2 c' p q e l long)),
     )
 

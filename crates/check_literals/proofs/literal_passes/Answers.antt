@@ -8,9 +8,10 @@ returns c =
     let l = c.args.words.now in
     let a = c.needs_of-a in
     let r = a.result in
-    let w = c.put_needs in (
-      w.auto.0,
-      λ c' p q e.
+    let w = c.put_needs in
+    record {
+      long = w.auto.words;
+      value = λ c' p q e.
           let f = a.ensures c' p q e in
-          (f.0, λ z h t. rw (w.ensures.0 h) (words_more c' l i r.needs h (f.1 z) t)),
-    )
+          (f.0, λ z h t. rw (w.ensures.0 h) (words_more c' l i r.needs h (f.1 z) t));
+    }

@@ -2,12 +2,10 @@ use native.Mathlib.Omega.{arith}
 use native.Mathlib.Numerals.{add-one}
 use mathlib.Core.Path.{◌≡◌, refl, sym, ap, ◌∙◌}
 use mathlib.Core.Bool.{true, false≢true}
-use Prim.Native.Nat.{◌-◌}
 use lib.IntN.{nat_abs}
 use mir.Syntax.{w16}
 use mir.Facts.{to_z-of_z}
 use borrow.Author.Rules.{sfits_of}
-use borrow.Author.Tests.{not-true, not-false}
 use borrow.Author.Count.{below_none, below_more}
 use Rattle.meaning.specs.Rows.{some}
 use Rattle.meaning.specs.Laws.Rows.{every_intro, every_no}

@@ -2,8 +2,7 @@
 use native.Mathlib.Omega.{arith}
 use native.Mathlib.Nat.{zero-add}
 use mathlib.Core.Path.{sym, ◌∙◌}
-use mathlib.Core.Bool.{false}
-use Prim.Native.Nat.{suc, ◌+◌, ◌<◌, ◌-◌}
+use Prim.Native.Nat.{suc, ◌+◌, ◌<◌}
 use native.Mathlib.Decide.{dec_le, ℕ_discrete}
 use Rattle.meaning.specs.Laws.Rows.{least_at, least_none}
 use Rattle.meaning.specs.Once.{Words64}

@@ -8,7 +8,7 @@ use Rattle.tables.specs.Given.{tables_of}
 use Rattle.meaning.specs.Check.{size_passes, verdict_of}
 use Rattle.meaning.specs.Tables.{Tables, state_count, move_count}
 use Rattle.meaning.specs.Laws.Rows.{and_l, and_r}
-use borrow.Author.Tests.{not-true, not-false, leb-true, eqb-true}
+use borrow.Author.Tests.{leb-true, eqb-true}
 use mathlib.Core.List.{[], ◌∷◌, ◌++◌}
 use mathlib.Core.Bool.{true, false}
 use mathlib.Core.Path.{◌≡◌, refl, sym, ap, ◌∙◌}
@@ -43,14 +43,14 @@ sound c e f = record {
 pub returns-then-not-size_passes : goal.returns-then-not-size_passes
 returns-then-not-size_passes c =
     let a = c.args in
-    let t = tables_of a.chart a.states.now a.moves.now a.presets.now a.timer-pairs.now a.output-pairs.now in
+    let t = tables_of a.chart a.states.now a.moves.now a.presets.now a.timer_pairs.now a.output_pairs.now in
     let p = c.size_passes in
     size_stops t (sym p.ensures ∙ c.if-not-size_passes.true)
 
 pub returns-then-refused : goal.returns-then-refused
 returns-then-refused c =
     let a = c.args in
-    let t = tables_of a.chart a.states.now a.moves.now a.presets.now a.timer-pairs.now a.output-pairs.now in
+    let t = tables_of a.chart a.states.now a.moves.now a.presets.now a.timer_pairs.now a.output_pairs.now in
     let p = c.size_passes in
     front_decides (table_checks t) (move_checks t ++ (flip_flop_check t ∷ [])) c.judge_tables-tables.ensures c.refused.ensures c.if-refused.true
     ∙ size_goes t (sym p.ensures ∙ c.if-not-size_passes.false)
@@ -58,7 +58,7 @@ returns-then-refused c =
 pub returns-then-refused-2 : goal.returns-then-refused-2
 returns-then-refused-2 c =
     let a = c.args in
-    let t = tables_of a.chart a.states.now a.moves.now a.presets.now a.timer-pairs.now a.output-pairs.now in
+    let t = tables_of a.chart a.states.now a.moves.now a.presets.now a.timer_pairs.now a.output_pairs.now in
     let p = c.size_passes in
     let e = sym p.ensures ∙ c.if-not-size_passes.false in
     let f = c.judge_tables-tables.ensures in
@@ -70,7 +70,7 @@ returns-then-refused-2 c =
 pub returns : goal.returns
 returns c =
     let a = c.args in
-    let t = tables_of a.chart a.states.now a.moves.now a.presets.now a.timer-pairs.now a.output-pairs.now in
+    let t = tables_of a.chart a.states.now a.moves.now a.presets.now a.timer_pairs.now a.output_pairs.now in
     let p = c.size_passes in
     let e = sym p.ensures ∙ c.if-not-size_passes.false in
     let f = c.judge_tables-tables.ensures in

@@ -18,13 +18,13 @@ sources c e i h = source_known c i ((move_tells c i).0 (passed (check_of c L.Mov
 pub returns-then-refused : goal.returns-then-refused
 returns-then-refused c s =
     let a = c.args in
-    let t = tables_of a.chart a.states.now a.moves.now a.presets.now a.timer-pairs.now a.output-pairs.now in
+    let t = tables_of a.chart a.states.now a.moves.now a.presets.now a.timer_pairs.now a.output_pairs.now in
     front_decides (check_of t L.Move ∷ []) (need_checks t) c.judge-source.ensures c.refused.ensures c.if-refused.true
 
 pub returns-then-moves-le16 : goal.returns-then-moves-le16
 returns-then-moves-le16 c s =
     let a = c.args in
-    let t = tables_of a.chart a.states.now a.moves.now a.presets.now a.timer-pairs.now a.output-pairs.now in
+    let t = tables_of a.chart a.states.now a.moves.now a.presets.now a.timer_pairs.now a.output_pairs.now in
     let j = c.judge-source in
     let r = c.refused in
     let l = c.if-refused.false in
@@ -34,7 +34,7 @@ returns-then-moves-le16 c s =
 pub returns : goal.returns
 returns c s =
     let a = c.args in
-    let t = tables_of a.chart a.states.now a.moves.now a.presets.now a.timer-pairs.now a.output-pairs.now in
+    let t = tables_of a.chart a.states.now a.moves.now a.presets.now a.timer_pairs.now a.output_pairs.now in
     let j = c.judge-source in
     let r = c.refused in
     let l = c.if-refused.false in

@@ -18,7 +18,7 @@ returns-then-refused-2 c c' p e f g h s o k =
     let r = c.refused in
     let d = l.ensures c' p (ap length g) f in
     let n = sym r.ensures ∙ c.if-refused.false in
-    let w = worded c' l.new.1.1.1.0 d.0 n (omega (arith, k, l.auto.1.1.1.0)) (d.1 n k) in
+    let w = worded c' l.new.needs d.0 n (omega (arith, k, l.auto.needs)) (d.1 n k) in
     front_decides (idle_check c' ∷ []) (overlap_check c' ∷ []) (c.judge_timers-idle.ensures c' e f h s o w) c.refused-2.ensures c.if-refused-2.true
     ∙ later_decide (literal_check c' ∷ []) (idle_check c' ∷ overlap_check c' ∷ []) d.0 r.ensures c.if-refused.false
 
@@ -29,7 +29,7 @@ returns c c' p e f g h s o k =
     let r = c.refused in
     let d = l.ensures c' p (ap length g) f in
     let n = sym r.ensures ∙ c.if-refused.false in
-    let w = worded c' l.new.1.1.1.0 d.0 n (omega (arith, k, l.auto.1.1.1.0)) (d.1 n k) in
+    let w = worded c' l.new.needs d.0 n (omega (arith, k, l.auto.needs)) (d.1 n k) in
     c.judge_overlap.ensures c' e f s.falling w
     ∙ later_decide (idle_check c' ∷ []) (overlap_check c' ∷ []) (c.judge_timers-idle.ensures c' e f h s o w) c.refused-2.ensures c.if-refused-2.false
     ∙ later_decide (literal_check c' ∷ []) (idle_check c' ∷ overlap_check c' ∷ []) d.0 r.ensures c.if-refused.false

@@ -1,12 +1,10 @@
 use Rattle.check_tables.specs.Verdicts.{overlap_check, fails_at, all_pass, words_first}
 use Rattle.tables.specs.Given.{move_count_lem}
 use Rattle.meaning.specs.Check.{overlap_passes}
-use borrow.Author.Tests.{not-true, not-false}
 use borrow.Author.Count.{below_none, below_more}
 use native.Mathlib.Omega.{arith}
 use mathlib.Core.Bool.{true}
 use mathlib.Core.Path.{◌≡◌, sym, ◌∙◌}
-use Prim.Native.Nat.{◌-◌}
 use Rattle.check_tables.proofs.judge_overlap.Goals as goal
 
 pub loop-i-init : goal.loop-i-init

@@ -8,11 +8,11 @@ use Rattle.check_tables.proofs.judge_states.Goals as goal
 pub returns-then-refused : goal.returns-then-refused
 returns-then-refused c =
     let a = c.args in
-    let t = tables_of a.chart a.states.now a.moves.now a.presets.now a.timer-pairs.now a.output-pairs.now in
+    let t = tables_of a.chart a.states.now a.moves.now a.presets.now a.timer_pairs.now a.output_pairs.now in
     front_decides (check_of t L.Hierarchy ∷ []) (check_of t L.Initial ∷ []) c.judge-hierarchy.ensures c.refused.ensures c.if-refused.true
 
 pub returns : goal.returns
 returns c =
     let a = c.args in
-    let t = tables_of a.chart a.states.now a.moves.now a.presets.now a.timer-pairs.now a.output-pairs.now in
+    let t = tables_of a.chart a.states.now a.moves.now a.presets.now a.timer_pairs.now a.output_pairs.now in
     c.judge.ensures ∙ later_decide (check_of t L.Hierarchy ∷ []) (check_of t L.Initial ∷ []) c.judge-hierarchy.ensures c.refused.ensures c.if-refused.false

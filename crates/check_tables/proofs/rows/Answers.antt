@@ -5,22 +5,22 @@ use mathlib.Core.Path.{sym, ap}
 use Rattle.check_tables.proofs.rows.Goals as goal
 
 pub returns-in-Hierarchy : goal.returns-in-Hierarchy
-returns-in-Hierarchy c c' p = rw c.enum_told-1.given.1 (sym (state_count_lem c' _ p.states))
+returns-in-Hierarchy c c' p = rw c.in-Hierarchy.is (sym (state_count_lem c' _ p.states))
 
 pub returns-in-Initial : goal.returns-in-Initial
-returns-in-Initial c c' p = rw c.enum_told-in-Initial-1.given.1 (sym (state_count_lem c' _ p.states))
+returns-in-Initial c c' p = rw c.in-Initial.is (sym (state_count_lem c' _ p.states))
 
 pub returns-in-Preset : goal.returns-in-Preset
 unfolding timer_count
-returns-in-Preset c c' p = rw c.enum_told-in-Preset-1.given.1 (ap length (sym p.presets))
+returns-in-Preset c c' p = rw c.in-Preset.is (ap length (sym p.presets))
 
 pub returns-in-TimerPair : goal.returns-in-TimerPair
 unfolding pair_count
-returns-in-TimerPair c c' p = rw c.enum_told-in-TimerPair-1.given.1 (ap pair_count (sym p.timer_pairs))
+returns-in-TimerPair c c' p = rw c.in-TimerPair.is (ap pair_count (sym p.timer_pairs))
 
 pub returns-in-OutputPair : goal.returns-in-OutputPair
 unfolding pair_count
-returns-in-OutputPair c c' p = rw c.enum_told-in-OutputPair-1.given.1 (ap pair_count (sym p.output_pairs))
+returns-in-OutputPair c c' p = rw c.in-OutputPair.is (ap pair_count (sym p.output_pairs))
 
 pub returns-in-Move : goal.returns-in-Move
-returns-in-Move c c' p = rw c.enum_told-in-Move-1.given.1 (sym (move_count_lem c' _ p.moves))
+returns-in-Move c c' p = rw c.in-Move.is (sym (move_count_lem c' _ p.moves))

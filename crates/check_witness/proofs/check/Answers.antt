@@ -8,8 +8,8 @@ use Rattle.check_witness.proofs.check.Goals as goal
 
 pub returns-in-Accepted : goal.returns-in-Accepted
 returns-in-Accepted c =
-    let z = c.enum_told-1.given.1 in
+    let z = c.in-Accepted.is in
     other_witnessed _ Accepted c.nothing.result (sym c.check-v.ensures ∙ z) accepted_no_overlap (c.nothing.ensures ∙ ap no_witness z)
 
 pub returns-in-Refused : goal.returns-in-Refused
-returns-in-Refused c = c.of_refusal.ensures _ refl (unfold timer_count in refl) refl refl (sym c.check-v.ensures ∙ c.v-1.given.1)
+returns-in-Refused c = c.of_refusal.ensures _ refl (unfold timer_count in refl) refl refl (sym c.check-v.ensures ∙ c.in-Refused.is)

@@ -15,7 +15,7 @@ pub loop-i-preserved : goal.loop-i-preserved
 loop-i-preserved c =
     let from : List ℕ = c.args.from.now in
     let h : c.loop-i.i < length from = omega arith in
-    let e : c.put_value.new.0 ≡ set c.loop-i.to c.loop-i.i (low32 (get_or from c.loop-i.i 0)) =
+    let e : c.put_value.new.values ≡ set c.loop-i.to c.loop-i.i (low32 (get_or from c.loop-i.i 0)) =
     c.put_value.ensures ∙ ap (set c.loop-i.to c.loop-i.i) c.low_32.ensures in
     (omega arith, ap length e ∙ length-set c.loop-i.to c.loop-i.i (low32 (get_or from c.loop-i.i 0)) ∙ c.loop-i.invariant.1, rw (add-one, e) (stores_next_lem low32 c.loop-i.to from c.loop-i.i h ∙ c.loop-i.invariant.2))
 

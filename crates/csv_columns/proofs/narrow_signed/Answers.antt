@@ -18,7 +18,7 @@ pub loop-i-preserved : goal.loop-i-preserved
 loop-i-preserved c =
     let from : List ℕ = c.args.from.now in
     let h : c.loop-i.i < length from = omega arith in
-    let e : c.put_signed.new.0 ≡ set c.loop-i.to c.loop-i.i (signed_of (get_or from c.loop-i.i 0)) =
+    let e : c.put_signed.new.signed ≡ set c.loop-i.to c.loop-i.i (signed_of (get_or from c.loop-i.i 0)) =
     c.put_signed.ensures ∙ ap (set c.loop-i.to c.loop-i.i) (to_z-of_z {w = w16} (sfits_of c.signed.type_inv) ∙ c.signed.ensures) in
     (omega arith, ap length e ∙ length-set c.loop-i.to c.loop-i.i (signed_of (get_or from c.loop-i.i 0)) ∙ c.loop-i.invariant.1, rw (add-one, e) (stores_next_lem signed_of c.loop-i.to from c.loop-i.i h ∙ c.loop-i.invariant.2))
 

@@ -15,14 +15,14 @@ pub returns-in-Is : goal.returns-in-Is
 unfolding field_end field_emits taken numbers_of
 returns-in-Is c = (let e = sym c.ends_return.ensures ∙ c.if-ends_return.false in
     let f = sym c.in_place.ensures ∙ c.if-in_place.true in
-    let d = sym c.decimal_of-d.ensures ∙ c.d-1.given.1 in
+    let d = sym c.in-Is.ensures in
     record { state = rw (e, f, d) (rw (← c.one_more.ensures) c.pass-in-Is.ensures); stored = rw (f, d) c.put_word.ensures })
 
 pub returns-in-IsNot : goal.returns-in-IsNot
 unfolding field_end field_emits taken numbers_of
 returns-in-IsNot c = (let e = sym c.ends_return.ensures ∙ c.if-ends_return.false in
     let f = sym c.in_place.ensures ∙ c.if-in_place.true in
-    let d = sym c.decimal_of-d.ensures ∙ c.enum_told-1.given.1 in
+    let d = sym c.in-IsNot.ensures in
     record { state = rw (e, f, d) c.fail.ensures; stored = rw (f, d) })
 
 pub returns : goal.returns

@@ -1,5 +1,4 @@
 use Rattle.grammar_words.specs.Pass.{took_none, took_one, took_refused, took_accepted, took_unfinished}
-use Prim.Native.Nat.{◌-◌}
 use mathlib.Core.Path.{sym, ◌∙◌}
 use Rattle.grammar_words.proofs.words_pass.Goals as goal
 

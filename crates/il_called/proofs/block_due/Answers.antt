@@ -3,8 +3,8 @@ use Rattle.il_called.proofs.block_due.Goals as goal
 
 pub returns-in-Known : goal.returns-in-Known
 unfolding due
-returns-in-Known c = rw (c.d-1.given.1, c.called_by.ensures)
+returns-in-Known c = rw (c.in-Known.is, c.called_by.ensures)
 
 pub returns-in-Unknown : goal.returns-in-Unknown
 unfolding due
-returns-in-Unknown c = rw c.enum_told-1.given.1
+returns-in-Unknown c = rw c.in-Unknown.is

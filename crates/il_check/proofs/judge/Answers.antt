@@ -11,8 +11,8 @@ returns-then-step-gt-STEP c = JudgedBy.step (step_high c.args.step (omega arith)
 
 pub returns-in-Accepted : goal.returns-in-Accepted
 returns-in-Accepted c =
-    let h = rw c.passed-1.given.1 at c.words_pass-passed.ensures in
+    let h = c.in-Accepted.ensures in
     JudgedBy.rest (step_in c.args.step (omega arith) (omega arith)) h.program (record { program = h.fitting; list = h.listing }) c.state_passes-ok.result (rw h.blocks c.state_passes-ok.ensures) c.then_scans.ensures
 
 pub returns-in-Refused : goal.returns-in-Refused
-returns-in-Refused c = JudgedBy.text (step_in c.args.step (omega arith) (omega arith)) _ (rw c.passed-in-Refused-1.given.1 at c.words_pass-passed.ensures) refl
+returns-in-Refused c = JudgedBy.text (step_in c.args.step (omega arith) (omega arith)) _ c.in-Refused.ensures refl

@@ -1,7 +1,5 @@
 use Rattle.il_sizes.specs.Bytes.{bytes_on, bytes_end}
 use native.Mathlib.Omega.{arith}
-use Prim.Native.Nat.{◌-◌}
-use mathlib.Core.Logic.{}
 use Rattle.il_sizes.proofs.flip_flop_bytes.Goals as goal
 use Rattle.il_sizes.proofs.flip_flop_bytes.Goals.{else-most-n, then-most-n}
 

@@ -1,5 +1,4 @@
 use native.Mathlib.Omega.{arith}
-use Prim.Native.Nat.{◌-◌}
 use mathlib.Core.Bool.{false≢true}
 use mathlib.Core.Path.{refl}
 use borrow.Author.Count.{below_more}

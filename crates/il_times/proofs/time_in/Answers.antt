@@ -3,8 +3,8 @@ use Rattle.il_times.proofs.time_in.Goals as goal
 
 pub returns-in-Known : goal.returns-in-Known
 unfolding time_in
-returns-in-Known c = rw (c.d-1.given.1, c.time_after.ensures)
+returns-in-Known c = rw (c.in-Known.is, c.time_after.ensures)
 
 pub returns-in-Unknown : goal.returns-in-Unknown
 unfolding time_in
-returns-in-Unknown c = rw c.enum_told-1.given.1
+returns-in-Unknown c = rw c.in-Unknown.is

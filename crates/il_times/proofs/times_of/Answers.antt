@@ -2,10 +2,9 @@ use Rattle.il_times.specs.Sizes.{Rungs, rungs_on, rungs_end, rung_called, rung_n
 use Rattle.format.specs.Decode.{decoded}
 use lib.ListN.{get_or, length-set}
 use native.Mathlib.Omega.{arith}
-use Prim.Native.Nat.{◌-◌}
-use mathlib.Core.Logic.{⊎_elim}
 use mathlib.Core.Path.{refl, sym, ap, ◌∙◌}
 use Rattle.il_times.proofs.times_of.Goals as goal
+use Rattle.il_times.proofs.times_of.Goals.{then-k-lt32, else-k-lt32}
 
 pub loop-i-init : goal.loop-i-init
 loop-i-init c = (omega arith, refl, refl)
@@ -18,18 +17,18 @@ loop-i-preserved c =
     let k = c.word_due-k.ensures in
     let t = c.time_of-time.ensures in
     let o = rungs_on a.words.now l.i (record { time = l.time; times = l.times }) (omega arith) in
-    ⊎_elim
-    (λ w. (
-      omega arith,
-      rw w.1 (length-set l.times c.word_due-k.result c.time_of-time.result ∙ l.invariant.1),
-      rw (w.1, k, t) ((rw (rung_called i l.time l.times (rw k at w.0.taken)) at (sym o)) ∙ l.invariant.2),
-    ))
-    (λ w. (
-      omega arith,
-      rw w.1 l.invariant.1,
-      rw (w.1, t) ((rw (rung_none i l.time l.times (rw k at w.0.left)) at (sym o)) ∙ l.invariant.2),
-    ))
-    c.if-k-lt32.branch
+    elim c.if-k-lt32.branch [
+      | then-k-lt32 w ↦ (
+        omega arith,
+        rw w.times-is (length-set l.times c.word_due-k.result c.time_of-time.result ∙ l.invariant.1),
+        rw (w.times-is, k, t) ((rw (rung_called i l.time l.times (rw k at w.if-k-lt32.true)) at (sym o)) ∙ l.invariant.2),
+      )
+      | else-k-lt32 w ↦ (
+        omega arith,
+        rw w.times-is l.invariant.1,
+        rw (w.times-is, t) ((rw (rung_none i l.time l.times (rw k at w.if-k-lt32.false)) at (sym o)) ∙ l.invariant.2),
+      )
+    ]
 
 pub returns : goal.returns
 returns c =

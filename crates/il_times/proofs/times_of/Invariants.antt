@@ -6,7 +6,7 @@ use Rattle.il_times.proofs.times_of.Given as goal
 
 abbrev pub invariant-loop-i : goal.invariant-loop-i
 invariant-loop-i l =
-    (l.i ≤ length l.words) × (length l.times ≡ 32) × (rungs_in (drop l.i l.words) (record { l.time = l.time; l.times = l.times }) ≡ rungs_in l.words no_rungs)
+    (l.i ≤ length l.words) × (length l.times ≡ 32) × (rungs_in (drop l.i l.words) (record { time = l.time; times = l.times }) ≡ rungs_in l.words no_rungs)
 
 abbrev pub decreases-loop-i : goal.decreases-loop-i
 decreases-loop-i l = length l.words - l.i

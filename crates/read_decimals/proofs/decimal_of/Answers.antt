@@ -1,12 +1,11 @@
 use mathlib.Core.Path.{◌∙◌}
-use mathlib.Core.Logic.{⊎_elim}
-use Prim.Native.Nat.{◌-◌}
 use native.Mathlib.Omega.{arith}
 use native.Mathlib.Numerals.{add-one}
 use mathlib.Core.List.{append-nil}
 use lib.Seq.{take_all}
 use Rattle.read_decimals.specs.Spelling.{spelling_none, spelling_more, spelt_all, too_large, no_bytes, no_digit, zero_first, digit_more}
 use Rattle.read_decimals.proofs.decimal_of.Goals as goal
+use Rattle.read_decimals.proofs.decimal_of.Goals.{then-s-gt1+else-s-eq48, else-s-gt1}
 
 pub returns-then-s-eq0 : goal.returns-then-s-eq0
 returns-then-s-eq0 c = λ m p q e. no_bytes (spelling_none c.args.s.now) (omega arith) (omega arith) m (omega arith) (rw append-nil at e)
@@ -15,7 +14,7 @@ pub returns-then-s-eq48 : goal.returns-then-s-eq48
 returns-then-s-eq48 c = λ m p q e. zero_first c.args.s.now (omega arith) c.if-s-eq48.true m (omega arith) (rw append-nil at e)
 
 pub loop-i-init : goal.loop-i-init
-loop-i-init c = (omega arith, spelling_none _, λ h k. absurd (omega arith), ⊎_elim (λ w h e. omega arith) (λ w h e. omega arith) c.if-s-gt1.branch)
+loop-i-init c = (omega arith, spelling_none _, λ h k. absurd (omega arith), elim c.if-s-gt1.branch [ then-s-gt1+else-s-eq48 w ↦ (λ h. w.if-s-eq48.false) | else-s-gt1 w ↦ (λ h e. omega arith) ])
 
 pub returns-then-b-lt48 : goal.returns-then-b-lt48
 returns-then-b-lt48 c = λ m p q e. no_digit c.loop-i.invariant.1 (omega arith) (λ x y. omega arith) m (omega arith) (rw append-nil at e)

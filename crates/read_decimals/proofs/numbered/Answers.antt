@@ -5,7 +5,6 @@ use mathlib.Core.Path.{sym, ◌∙◌}
 use native.Mathlib.Omega.{arith}
 use lib.ListN.{length}
 use lib.Seq.{length-take-le}
-use borrow.Author.Tests.{not-true, not-false}
 use Rattle.read_decimals.specs.FormLaws.{cut, spells_part, part_back}
 use Rattle.read_decimals.proofs.numbered.Goals as goal
 

@@ -1,4 +1,3 @@
-use mathlib.Core.Logic.{⊎_elim}
 use native.Mathlib.Omega.{arith}
 use Rattle.read_line.specs.KindLaws.{no_line}
 use Rattle.read_line.proofs.line_of.Goals as goal
@@ -7,4 +6,4 @@ pub returns-then-s-eq0 : goal.returns-then-s-eq0
 returns-then-s-eq0 c = no_line _ c.if-s-eq0.true
 
 pub other_of-requires : goal.other_of-requires
-other_of-requires c = (λ e. omega arith, λ e. omega arith, λ h. ⊎_elim (λ w. omega arith) (λ w. omega arith) c.in_default.branch)
+other_of-requires c = (λ e. omega arith, λ e. omega arith, λ h. omega arith)

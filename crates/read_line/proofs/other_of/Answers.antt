@@ -8,10 +8,10 @@ pub returns-then-same-2 : goal.returns-then-same-2
 returns-then-same-2 c = load_close (c.same-2.ensures.0 c.if-same-2.true)
 
 pub returns-in-Is : goal.returns-in-Is
-returns-in-Is c = store_call (rw c.n-1.given.1 at c.numbered.ensures)
+returns-in-Is c = store_call c.in-Is.ensures
 
 pub returns-in-Is-numbered : goal.returns-in-Is-numbered
-returns-in-Is-numbered c = line_block (rw c.n-in-Is-numbered-2-1.given.1 at c.numbered-2.ensures)
+returns-in-Is-numbered c = line_block c.in-Is-numbered.ensures
 
 pub returns-then-same-3 : goal.returns-then-same-3
 returns-then-same-3 c = line_var (c.same-3.ensures.0 c.if-same-3.true)
@@ -26,4 +26,4 @@ pub returns-then-same-6 : goal.returns-then-same-6
 returns-then-same-6 c = line_end (c.same-6.ensures.0 c.if-same-6.true)
 
 pub returns : goal.returns
-returns c = no_other c.requires (differs c.same.ensures c.if-same.false) (differs c.same-2.ensures c.if-same-2.false) (rw c.enum_told-1.given.1 at c.numbered.ensures) (rw c.enum_told-in_default-numbered-1.given.1 at c.numbered-2.ensures) (differs c.same-3.ensures c.if-same-3.false) (differs c.same-4.ensures c.if-same-4.false) (differs c.same-5.ensures c.if-same-5.false) (differs c.same-6.ensures c.if-same-6.false)
+returns c = no_other c.requires (differs c.same.ensures c.if-same.false) (differs c.same-2.ensures c.if-same-2.false) c.in_default.ensures c.in_default-numbered.ensures (differs c.same-3.ensures c.if-same-3.false) (differs c.same-4.ensures c.if-same-4.false) (differs c.same-5.ensures c.if-same-5.false) (differs c.same-6.ensures c.if-same-6.false)

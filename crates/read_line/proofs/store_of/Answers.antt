@@ -9,13 +9,13 @@ pub put_of-requires : goal.put_of-requires
 put_of-requires c = (c.requires, c.if-s-eq84.true)
 
 pub returns-in-Is : goal.returns-in-Is
-returns-in-Is c = store_s (rw c.n-1.given.1 at c.numbered.ensures)
+returns-in-Is c = store_s c.in-Is.ensures
 
 pub overflow_cast-result-in-Is-numbered : goal.overflow_cast-result-in-Is-numbered
-overflow_cast-result-in-Is-numbered c = omega (arith, (rw c.n-in-Is-numbered-2-1.given.1 at c.numbered-2.ensures).1)
+overflow_cast-result-in-Is-numbered c = omega (arith, c.in-Is-numbered.ensures.1)
 
 pub returns-in-Is-numbered : goal.returns-in-Is-numbered
-returns-in-Is-numbered c = store_r (rw c.n-in-Is-numbered-2-1.given.1 at c.numbered-2.ensures)
+returns-in-Is-numbered c = store_r c.in-Is-numbered.ensures
 
 pub returns : goal.returns
-returns c = no_store c.requires c.if-s-eq84.false (rw c.enum_told-1.given.1 at c.numbered.ensures) (rw c.enum_told-in_default-numbered-1.given.1 at c.numbered-2.ensures)
+returns c = no_store c.requires c.if-s-eq84.false c.in_default.ensures c.in_default-numbered.ensures

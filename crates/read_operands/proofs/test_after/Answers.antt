@@ -3,7 +3,6 @@ use mathlib.Core.Bool.{false≢true}
 use native.Mathlib.Omega.{arith}
 use lib.ListN.{length}
 use lib.Seq.{length-take-le}
-use borrow.Author.Tests.{not-true, not-false}
 use Rattle.meaning.specs.Programs.{testable}
 use Rattle.format.specs.Text.{operand_text}
 use Rattle.read_decimals.specs.FormLaws.{part_back}

@@ -1,5 +1,4 @@
 use mathlib.Core.Path.{sym, ◌∙◌}
-use Prim.Native.Nat.{◌-◌}
 use native.Mathlib.Omega.{arith}
 use Rattle.read_pass.specs.PassLaws.{passing_none, passing_length, passing_line, passing_refused, passing_unfinished, passing_short, passing_over}
 use Rattle.read_pass.proofs.pass.Goals as goal

@@ -1,4 +1,4 @@
 use Rattle.read_pass.proofs.put_line.Goals as goal
 
 pub returns-in-Says : goal.returns-in-Says
-returns-in-Says c = rw c.l-1.given.1 c.put_word.ensures
+returns-in-Says c = rw c.in-Says.is c.put_word.ensures

@@ -16,25 +16,27 @@ pub returns-then-room-n : goal.returns-then-room-n
 returns-then-room-n c =
     let a = c.args in
     let k = c.pass-measured in
-    let w = k.new.1.0 in
-    let q = rw c.decreases.given.1 at k.ensures in
-    let e : w ++ a.out.now ≡ a.out.now = empty_part w a.out.now (same_length c) in
+    let w = k.new.out in
+    let n : length (w ++ a.out.now) ≡ length a.out.now = search rules in
+    let q = c.in-Over.ensures in
+    let e : w ++ a.out.now ≡ a.out.now = empty_part w a.out.now n in
     read_cramped a.out.now (w ++ a.out.now) e q (omega (arith, c.if-room-n.true)) (omega (arith, q.few))
 
 pub returns-else-room-n : goal.returns-else-room-n
 returns-else-room-n c =
     let a = c.args in
     let k = c.pass-measured in
-    let w = k.new.1.0 in
+    let w = k.new.out in
     let n : length (w ++ a.out.now) ≡ length a.out.now = search rules in
-    let q = rw c.decreases.given.1 at k.ensures in
+    let q = c.in-Over.ensures in
     read_passed a.out.now _ c.pass.result q (omega (arith, c.if-room-n.false)) (rw (empty_part w a.out.now n) at c.pass.ensures)
 
 pub returns-in-Stopped : goal.returns-in-Stopped
 returns-in-Stopped c =
     let a = c.args in
     let k = c.pass-measured in
-    let w = k.new.1.0 in
-    let e : w ++ a.out.now ≡ a.out.now = empty_part w a.out.now (same-length-3 c) in
-    let q = rw c.measured-in-Stopped-1.given.1 at k.ensures in
+    let w = k.new.out in
+    let n : length (w ++ a.out.now) ≡ length a.out.now = search rules in
+    let e : w ++ a.out.now ≡ a.out.now = empty_part w a.out.now n in
+    let q = c.in-Stopped.ensures in
     read_stopped a.out.now (w ++ a.out.now) e q

@@ -33,18 +33,18 @@ opposite-size : (v : ℤ) → lt_z v (pos 0) ≡ true → nat_abs (pos 0 -ℤ v)
 opposite-size (pos n) q = absurd (omega (arith, ltb-true n 0 q))
 opposite-size (negsuc n) q = zero-add (suc n)
 
-pub returns-then-v-ltminus32767 : goal.returns-then-v-ltminus32767
-returns-then-v-ltminus32767 c =
-    let f = c.ranges.v in low _ (omega arith) c.args.v f (rw (to_z-of_z f) at c.if-v-ltminus32767.true)
+pub returns-then-v-lt-LEAST_OPPOSED : goal.returns-then-v-lt-LEAST_OPPOSED
+returns-then-v-lt-LEAST_OPPOSED c =
+    let f = c.ranges.v in low _ (omega arith) c.args.v f (rw (to_z-of_z f) at c.if-v-lt-LEAST_OPPOSED.true)
 
 pub overflow_sub-result : goal.overflow_sub-result
 overflow_sub-result c =
-    let u = to_z w16 (of_z w16 c.args.v) in opposite-fits _ (omega arith) u c.if-v-ltminus32767.false c.if-v-lt0.true
+    let u = to_z w16 (of_z w16 c.args.v) in opposite-fits _ (omega arith) u c.if-v-lt-LEAST_OPPOSED.false c.if-v-lt0.true
 
 pub overflow_cast-result : goal.overflow_cast-result
 overflow_cast-result c =
     let u = to_z w16 (of_z w16 c.args.v) in
-    let f = opposite-fits _ (omega arith) u c.if-v-ltminus32767.false c.if-v-lt0.true in
+    let f = opposite-fits _ (omega arith) u c.if-v-lt-LEAST_OPPOSED.false c.if-v-lt0.true in
     rw (to_z-of_z f) (opposite-pos u c.if-v-lt0.true, Fits-nat_abs tt f)
 
 pub returns-then-v-lt0 : goal.returns-then-v-lt0
@@ -52,7 +52,7 @@ returns-then-v-lt0 c =
     let v = c.args.v in
     let u = to_z w16 (of_z w16 v) in
     let f = to_z-of_z c.ranges.v in
-    ap nat_abs (to_z-of_z {w = w16} (opposite-fits _ (omega arith) u c.if-v-ltminus32767.false c.if-v-lt0.true))
+    ap nat_abs (to_z-of_z {w = w16} (opposite-fits _ (omega arith) u c.if-v-lt-LEAST_OPPOSED.false c.if-v-lt0.true))
     ∙ opposite-size u c.if-v-lt0.true ∙ ap nat_abs f
 
 pub overflow_cast-result-2 : goal.overflow_cast-result-2

@@ -7,8 +7,8 @@ use Rattle.write_bits.proofs.put_bits.Given as goal
 
 abbrev pub invariant-loop-i : goal.invariant-loop-i
 invariant-loop-i l =
-    (l.i ≤ l.code) × (length l.out ≡ length l.base) × (l.k ≡ l.initial.out / 2 ^ l.i)
-    × (l.first + (l.width + l.code) ≤ 65536 → TestsPut l.base l.initial.p (bits_from (bit_at l.first) l.width l.i l.initial.out) l.out l.p)
+    (l.i ≤ l.width) × (length l.out ≡ length l.initial.out) × (l.k ≡ l.code / 2 ^ l.i)
+    × (l.base + (l.first + l.width) ≤ 65536 → TestsPut l.initial.out l.initial.p (bits_from (bit_at l.base) l.first l.i l.code) l.out l.p)
 
 abbrev pub decreases-loop-i : goal.decreases-loop-i
-decreases-loop-i l = l.code - l.i
+decreases-loop-i l = l.width - l.i

@@ -5,16 +5,16 @@ use Rattle.write_bits.proofs.put_kind.Goals as goal
 
 pub returns-in-Unused : goal.returns-in-Unused
 unfolding kind_test
-returns-in-Unused c c' = rw c.enum_told-1.given.1 (sent_none _ _ (omega arith) (omega arith))
+returns-in-Unused c c' = rw c.in-Unused.is (sent_none _ _ (omega arith) (omega arith))
 
 pub returns-in-Input : goal.returns-in-Input
 unfolding kind_test
-returns-in-Input c c' = rw c.kind-1.given.1 c.put_input.ensures
+returns-in-Input c c' = rw c.in-Input.is c.put_input.ensures
 
 pub returns-in-Timer : goal.returns-in-Timer
 unfolding kind_test
-returns-in-Timer c c' = rw c.kind-in-Timer-1.given.1 c.put_expired.ensures
+returns-in-Timer c c' = rw c.in-Timer.is c.put_expired.ensures
 
 pub returns-in-Unknown : goal.returns-in-Unknown
 unfolding kind_test
-returns-in-Unknown c c' = rw c.enum_told-in-Unknown-1.given.1 (sent_none _ _ (omega arith) (omega arith))
+returns-in-Unknown c c' = rw c.in-Unknown.is (sent_none _ _ (omega arith) (omega arith))

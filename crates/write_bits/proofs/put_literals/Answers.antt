@@ -5,7 +5,6 @@ use lib.IntN.{nat_abs}
 use borrow.Author.Rules.{sfits_of}
 use Rattle.meaning.specs.Literals.{kind_of, wanted}
 use mathlib.Core.List.{flat_map}
-use Prim.Native.Nat.{◌-◌}
 use native.Mathlib.Numerals.{add-one}
 use native.Mathlib.Omega.{arith}
 use Rattle.meaning.specs.Rows.{table}

@@ -3,7 +3,6 @@ use Prim.Native.Nat.{◌-◌}
 use native.Mathlib.Omega.{arith}
 use Rattle.meaning.specs.Hierarchy.{up, depth}
 use Rattle.meaning.specs.Written.{path_bits}
-use Rattle.write_bits.specs.Sent.{laid}
 use Rattle.write_bits.specs.SentLaws.{sent_none, path_step}
 use Rattle.write_bits.specs.GroupLaws.{path_up}
 use Rattle.write_bits.proofs.put_state.Goals as goal

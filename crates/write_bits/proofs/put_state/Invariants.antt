@@ -10,9 +10,9 @@ use Rattle.write_bits.proofs.put_state.Given as goal
 
 abbrev pub invariant-loop-k : goal.invariant-loop-k
 invariant-loop-k l =
-    (l.k ≤ 9) × (length l.out ≡ length l.states)
-    × ((c : Tables) → LaidTables c l.first (laid l.width l.code l.total l.s) → l.path < state_count c
-    → (l.k ≤ depth c l.path) × TestsPut l.states l.initial.p (path_bits c (bit_at (base_of l.s l.initial.p.way)) (depth c l.path - l.k) (up c l.k l.path)) l.out l.p)
+    (l.k ≤ 9) × (length l.out ≡ length l.initial.out)
+    × ((c : Tables) → LaidTables c l.states (laid l.first l.width l.code l.total) → l.s < state_count c
+    → (l.k ≤ depth c l.s) × TestsPut l.initial.out l.initial.p (path_bits c (bit_at (base_of l.total l.initial.p.way)) (depth c l.s - l.k) (up c l.k l.s)) l.out l.p)
 
 abbrev pub decreases-loop-k : goal.decreases-loop-k
 decreases-loop-k l = l.k

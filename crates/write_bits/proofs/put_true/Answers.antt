@@ -7,10 +7,10 @@ use Rattle.write_bits.proofs.put_true.Goals as goal
 
 pub returns-in-First : goal.returns-in-First
 unfolding line operator_text operand_text
-returns-in-First c = rw c.enum_told-1.given.1 (put_line (Ld True) c.put_part.ensures)
+returns-in-First c = rw c.in-First.is (put_line (Ld True) c.put_part.ensures)
 
 pub returns-in-More : goal.returns-in-More
-returns-in-More c = rw c.enum_told-in-More-1.given.1 (put_nil _ _ (omega arith) (omega arith))
+returns-in-More c = rw c.in-More.is (put_nil _ _ (omega arith) (omega arith))
 
 pub returns-in-Store : goal.returns-in-Store
-returns-in-Store c = rw c.enum_told-in-Store-1.given.1 (put_nil _ _ (omega arith) (omega arith))
+returns-in-Store c = rw c.in-Store.is (put_nil _ _ (omega arith) (omega arith))

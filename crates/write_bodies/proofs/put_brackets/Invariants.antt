@@ -9,8 +9,8 @@ use Rattle.write_bodies.proofs.put_brackets.Given as goal
 
 abbrev pub invariant-loop-i : goal.invariant-loop-i
 invariant-loop-i l =
-    (l.to ≤ l.i) × (l.i - l.to ≤ l.initial.out - l.to) × (length l.out ≡ length l.at)
-    × ((c : Tables) → LaidTables c l.first (laid l.width l.code l.total l.pairs) → Known c l.from l.to l.initial.out → PutIfRoom l.at l.states (lines (brackets c l.from l.to (l.i - l.to))) l.out l.p)
+    (l.from ≤ l.i) × (l.i - l.from ≤ l.to - l.from) × (length l.out ≡ length l.initial.out)
+    × ((c : Tables) → LaidTables c l.states (laid l.first l.width l.code l.total) → Known c l.pairs l.from l.to → PutIfRoom l.initial.out l.at (lines (brackets c l.pairs l.from (l.i - l.from))) l.out l.p)
 
 abbrev pub decreases-loop-i : goal.decreases-loop-i
-decreases-loop-i l = l.initial.out - l.i
+decreases-loop-i l = l.to - l.i

@@ -1,8 +1,7 @@
 use mathlib.Core.Path.{◌∙◌, sym}
-use Prim.Native.Nat.{◌-◌}
 use native.Mathlib.Omega.{arith}
 use native.Mathlib.Decide.{ℕ_discrete}
-use Rattle.meaning.specs.Tables.{pair_count, pair_number}
+use Rattle.meaning.specs.Tables.{pair_count}
 use Rattle.write_bodies.proofs.run_end.Goals as goal
 
 pub loop-i-init : goal.loop-i-init

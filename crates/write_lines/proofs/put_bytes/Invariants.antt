@@ -4,7 +4,7 @@ use Rattle.write_lines.specs.Put.{BytesPut}
 use Rattle.write_lines.proofs.put_bytes.Given as goal
 
 abbrev pub invariant-loop-i : goal.invariant-loop-i
-invariant-loop-i l = (l.i ≤ length l.initial.out) × BytesPut l.at l.word (take l.i l.initial.out) l.out l.p
+invariant-loop-i l = (l.i ≤ length l.word) × BytesPut l.initial.out l.at (take l.i l.word) l.out l.p
 
 abbrev pub decreases-loop-i : goal.decreases-loop-i
-decreases-loop-i l = length l.initial.out - l.i
+decreases-loop-i l = length l.word - l.i

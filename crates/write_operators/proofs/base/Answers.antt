@@ -1,10 +1,10 @@
 use Rattle.write_operators.proofs.base.Goals as goal
 
 pub returns-in-First : goal.returns-in-First
-returns-in-First c = rw c.enum_told-1.given.1
+returns-in-First c = rw c.in-First.is
 
 pub returns-in-More : goal.returns-in-More
-returns-in-More c = rw c.enum_told-in-More-1.given.1
+returns-in-More c = rw c.in-More.is
 
 pub returns-in-Store : goal.returns-in-Store
-returns-in-Store c = rw c.enum_told-in-Store-1.given.1
+returns-in-Store c = rw c.in-Store.is

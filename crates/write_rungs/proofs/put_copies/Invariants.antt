@@ -11,7 +11,7 @@ use Rattle.write_rungs.proofs.put_copies.Given as goal
 
 abbrev pub invariant-loop-b : goal.invariant-loop-b
 invariant-loop-b l =
-    (l.b ≤ l.initial.out) × (length l.out ≡ length l.at) × ((c : Tables) → Rules c → l.initial.out ≡ flip_flop_count c → PutIfRoom l.at l.total (lines (copies_to c l.b)) l.out l.p)
+    (l.b ≤ l.total) × (length l.out ≡ length l.initial.out) × ((c : Tables) → Rules c → l.total ≡ flip_flop_count c → PutIfRoom l.initial.out l.at (lines (copies_to c l.b)) l.out l.p)
 
 abbrev pub decreases-loop-b : goal.decreases-loop-b
-decreases-loop-b l = l.initial.out - l.b
+decreases-loop-b l = l.total - l.b

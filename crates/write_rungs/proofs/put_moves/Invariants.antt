@@ -9,7 +9,7 @@ use Rattle.write_rungs.proofs.put_moves.Given as goal
 
 abbrev pub invariant-loop-i : goal.invariant-loop-i
 invariant-loop-i l =
-    (l.i ≤ length l.initial.out / move_row) × (length l.out ≡ length l.at) × ((c : Tables) → LaidTables c l.first (laid l.width l.code l.total l.moves) → c.moves ≡ l.initial.out → PutIfRoom l.at l.states (lines (moves_to c l.i)) l.out l.p)
+    (l.i ≤ length l.moves / move_row) × (length l.out ≡ length l.initial.out) × ((c : Tables) → LaidTables c l.states (laid l.first l.width l.code l.total) → c.moves ≡ l.moves → PutIfRoom l.initial.out l.at (lines (moves_to c l.i)) l.out l.p)
 
 abbrev pub decreases-loop-i : goal.decreases-loop-i
-decreases-loop-i l = length l.initial.out / move_row - l.i
+decreases-loop-i l = length l.moves / move_row - l.i

@@ -10,8 +10,8 @@ use Rattle.write_rungs.proofs.put_outputs.Given as goal
 
 abbrev pub invariant-loop-o : goal.invariant-loop-o
 invariant-loop-o l =
-    (l.o ≤ l.initial.out) × (length l.out ≡ length l.at)
-    × ((c : Tables) → LaidTables c l.first (laid l.width l.code l.total l.pairs) → c.output_pairs ≡ l.outputs → c.outputs ≡ l.initial.out → Reaches l.outputs (suc l.o) l.cursor.row × PutIfRoom l.at l.states (lines (outputs_to c l.o)) l.out l.cursor.at)
+    (l.o ≤ l.outputs) × (length l.out ≡ length l.initial.out)
+    × ((c : Tables) → LaidTables c l.states (laid l.first l.width l.code l.total) → c.output_pairs ≡ l.pairs → c.outputs ≡ l.outputs → Reaches l.pairs (suc l.o) l.cursor.row × PutIfRoom l.initial.out l.at (lines (outputs_to c l.o)) l.out l.cursor.at)
 
 abbrev pub decreases-loop-o : goal.decreases-loop-o
-decreases-loop-o l = l.initial.out - l.o
+decreases-loop-o l = l.outputs - l.o

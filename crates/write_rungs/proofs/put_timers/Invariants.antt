@@ -10,8 +10,8 @@ use Rattle.write_rungs.proofs.put_timers.Given as goal
 
 abbrev pub invariant-loop-n : goal.invariant-loop-n
 invariant-loop-n l =
-    (l.n ≤ length l.pairs) × (length l.out ≡ length l.at)
-    × ((c : Tables) → LaidTables c l.first (laid l.width l.code l.total l.presets) → c.presets ≡ l.pairs → c.timer_pairs ≡ l.initial.out → Reaches l.initial.out (suc l.n) l.cursor.row × PutIfRoom l.at l.states (lines (timers_to c l.n)) l.out l.cursor.at)
+    (l.n ≤ length l.presets) × (length l.out ≡ length l.initial.out)
+    × ((c : Tables) → LaidTables c l.states (laid l.first l.width l.code l.total) → c.presets ≡ l.presets → c.timer_pairs ≡ l.pairs → Reaches l.pairs (suc l.n) l.cursor.row × PutIfRoom l.initial.out l.at (lines (timers_to c l.n)) l.out l.cursor.at)
 
 abbrev pub decreases-loop-n : goal.decreases-loop-n
-decreases-loop-n l = length l.pairs - l.n
+decreases-loop-n l = length l.presets - l.n

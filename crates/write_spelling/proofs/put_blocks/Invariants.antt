@@ -6,7 +6,7 @@ use Rattle.write_lines.specs.Fit.{PutIfRoom}
 use Rattle.write_spelling.proofs.put_blocks.Given as goal
 
 abbrev pub invariant-loop-n : goal.invariant-loop-n
-invariant-loop-n l = (l.n ≤ l.initial.out) × PutIfRoom l.at l.d (flat_map block_line (table (λ k. k) 1 l.n)) l.out l.p
+invariant-loop-n l = (l.n ≤ l.d) × PutIfRoom l.initial.out l.at (flat_map block_line (table (λ k. k) 1 l.n)) l.out l.p
 
 abbrev pub decreases-loop-n : goal.decreases-loop-n
-decreases-loop-n l = l.initial.out - l.n
+decreases-loop-n l = l.d - l.n

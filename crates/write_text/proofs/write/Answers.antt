@@ -5,11 +5,11 @@ use borrow.Author.Rules.{rules}
 use Rattle.write_text.proofs.write.Goals as goal
 
 pub returns-in-Refused : goal.returns-in-Refused
-returns-in-Refused c = refused_tables _ _ _ (sym c.check-v.ensures ∙ c.v-1.given.1)
+returns-in-Refused c = refused_tables _ _ _ (sym c.check-v.ensures ∙ c.in-Refused.is)
 
 pub returns-in-Accepted : goal.returns-in-Accepted
 returns-in-Accepted c =
-    let e = sym c.check-v.ensures ∙ c.enum_told-1.given.1 in
+    let e = sym c.check-v.ensures ∙ c.in-Accepted.is in
     accepted_tables _ _ _ _ e
     (c.write_checked.ensures _
     (record {

@@ -19,4 +19,4 @@ pub returns : goal.returns
 returns c c' g =
     let l = c.args.out.now in
     let y = c.lay_out-layout.ensures c' g.lent.states in
-    writes (chart_text c') l _ _ (c.put_text-n.ensures c' g y) (omega (arith, c.well-formed.1.1.1.1.1.1.0)) (omega (arith, c.if-out-n.false)) (c.put_text.ensures c' g y)
+    writes (chart_text c') l _ _ (c.put_text-n.ensures c' g y) (omega arith) (omega (arith, c.if-out-n.false)) (c.put_text.ensures c' g y)

@@ -7,11 +7,11 @@ use Rattle.write_word_lines.proofs.put_operand.Goals as goal
 
 pub returns-in-2000 : goal.returns-in-2000
 unfolding operand_of operand_text line
-returns-in-2000 c = rw c.in-2000.keys1 c.put_part.ensures
+returns-in-2000 c = rw c.in-2000.is c.put_part.ensures
 
 pub returns-in-2001 : goal.returns-in-2001
 unfolding operand_of operand_text line
-returns-in-2001 c = rw c.in-2001.keys2 c.put_part-in-2001.ensures
+returns-in-2001 c = rw c.in-2001.is c.put_part-in-2001.ensures
 
 pub returns-in-0-to-384 : goal.returns-in-0-to-384
 returns-in-0-to-384 c = rw (operand_mx c.args.m (omega arith)) c.put_mx.ensures

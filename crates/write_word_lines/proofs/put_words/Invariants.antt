@@ -6,7 +6,7 @@ use Prim.Native.Nat.{◌-◌, ◌≤◌}
 use Rattle.write_word_lines.proofs.put_words.Given as goal
 
 abbrev pub invariant-loop-i : goal.invariant-loop-i
-invariant-loop-i l = (l.i ≤ length l.initial.out) × PutIfRoom l.at l.words (flat_map word_line (take l.i l.initial.out)) l.out l.p
+invariant-loop-i l = (l.i ≤ length l.words) × PutIfRoom l.initial.out l.at (flat_map word_line (take l.i l.words)) l.out l.p
 
 abbrev pub decreases-loop-i : goal.decreases-loop-i
-decreases-loop-i l = length l.initial.out - l.i
+decreases-loop-i l = length l.words - l.i
