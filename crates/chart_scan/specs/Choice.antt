@@ -1,5 +1,5 @@
 -- What the literals read, and the moves of a state: which of them is chosen.
-use Rattle.std.specs.Prelude.{◌≡◌, ℕ, zero, suc, ◌+◌, ◌<◌, Bool, ◌&&◌, cond, List, get_or, eqb}
+use Rattle.std.specs.Prelude.{◌≡◌, ℕ, zero, suc, ◌+◌, ◌<◌, ◌&&◌, cond, List, get_or, eqb}
 use Rattle.meaning.specs.Tables.{Tables, source}
 use Rattle.meaning.specs.Literals.{Setting, literals_hold}
 use Rattle.meaning.specs.Needs.{just_on}

@@ -1,7 +1,7 @@
 use Rattle.check_needs.specs.Words.{need_words}
 use Rattle.check_needs.specs.WordsLaws.{Small}
 use mathlib.Core.Path.{◌≡◌}
-use Prim.Native.Nat.{ℕ, suc, ◌≤◌, ◌<◌, ◌-◌, ◌/◌}
+use Prim.Native.Nat.{ℕ, suc, ◌≤◌, ◌<◌, ◌/◌}
 use lib.ListN.{length}
 use Rattle.meaning.specs.Tables.{Tables, move_count, source}
 use Rattle.meaning.specs.Rules.{Rules}

@@ -1,6 +1,5 @@
 use native.Mathlib.Omega.{arith}
 use mathlib.Core.Path.{◌≡◌, refl, ◌∙◌}
-use Prim.Native.Nat.{◌-◌}
 use native.Mathlib.Numerals.{add-one}
 use Rattle.meaning.specs.Tables.{move_count}
 use Rattle.tables.specs.Given.{move_count_lem}

@@ -1,6 +1,6 @@
 use native.Mathlib.Omega.{arith}
 use mathlib.Core.Path.{refl, ap, ◌∙◌}
-use Prim.Native.Nat.{◌≤◌, ◌-◌}
+use Prim.Native.Nat.{◌≤◌}
 use lib.ListN.{length, get_or, set, take}
 use lib.Seq.{take_all}
 use Rattle.meaning.specs.Machine.{seen_at_leaf, trace, state_after_scans, Valid}

@@ -4,7 +4,6 @@ use mathlib.Core.Path.{◌≡◌, sym, ap, ◌∙◌}
 use mathlib.Core.Bool.{Bool, true, ◌||◌, and-false}
 use lib.Dec.{eqb}
 use borrow.Author.Tests.{eq-eqb, ne_eqb, le-leb, lt-leb}
-use Rattle.meaning.specs.Tables.{preset}
 use Rattle.chart_timers.specs.Times.{longest}
 use Rattle.chart_state_rules.specs.Values.{value_passes}
 use Rattle.chart_state_rules.proofs.value_passes.Goals as goal
