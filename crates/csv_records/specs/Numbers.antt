@@ -1,8 +1,7 @@
 -- The numbers of a file whose records pass are of its type, and what is stored of them gives them back.
 use Rattle.std.specs.Prelude.{◌≡◌, ℕ, zero, suc, ◌-◌, ◌≤◌, ◌<◌, Bool, true, length, get_or, drop, leb, ltb, eqb, ℤ, pos, negsuc, neg_ℤ, nat_abs}
 use Rattle.std.proofs.Math.Path.{refl}
-use Rattle.std.proofs.Common.{sym, ap, ◌∙◌, inl, inr, arith, true≢false, lt-ltb, le-ltb, le-leb, leb-true, ltb-true}
-use Rattle.std.proofs.lemmas.Bool.{false≢true}
+use Rattle.std.proofs.Common.{sym, ap, ◌∙◌, inl, inr, arith, lt-ltb, le-ltb, le-leb, leb-true, ltb-true}
 use mathlib.Core.List.{List, [], ◌∷◌, map, flat_map}
 use Rattle.meaning.specs.Programs.{all}
 use Rattle.meaning.specs.Literals.{between}

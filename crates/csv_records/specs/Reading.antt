@@ -1,6 +1,6 @@
 -- The reader tells of a file what document 01 says: FIELD at the least record that does not pass, or how many records there are; and it stores their numbers.
 use Rattle.std.proofs.Math.Path.{◌≡◌, refl, sym}
-use Rattle.std.proofs.Common.{ap, ◌∙◌, true≢false}
+use Rattle.std.proofs.Common.{ap, ◌∙◌}
 use Rattle.std.specs.Prelude.{◌⊎◌, Bool, ◌&&◌, cond, drop, leb, ltb, eqb}
 use Rattle.std.proofs.Math.Logic.{inl, inr}
 use Prim.Native.Nat.{ℕ, zero, suc, ◌+◌, ◌-◌, ◌^◌, ◌≤◌, ◌<◌, max}

@@ -1,9 +1,9 @@
 -- A file, record after record, from a fresh reader to its answer.
 use Rattle.std.specs.Prelude.{◌≡◌, ◌&&◌, not, cond, leb, ltb, eqb}
 use Rattle.std.proofs.Math.Path.{refl, sym, ap}
-use Rattle.std.proofs.Common.{◌∙◌, arith, add-one, true≢false, lt-ltb, le-leb, leb-true, leb-false, ltb-false, ltb-true, eqb-true}
+use Rattle.std.proofs.Common.{◌∙◌, arith, add-one, lt-ltb, le-leb, leb-true, leb-false, ltb-false, ltb-true, eqb-true}
 use Rattle.std.proofs.Math.Logic.{inl, inr}
-use Prim.Native.Nat.{ℕ, suc, ◌+◌, ◌-◌, ◌≤◌, ◌<◌}
+use Prim.Native.Nat.{ℕ, suc, ◌≤◌, ◌<◌}
 use Rattle.std.proofs.Math.Bool.{true, false}
 use Rattle.std.proofs.lemmas.Bool.{false≢true, not-true}
 use mathlib.Core.List.{List, [], ◌∷◌, ◌++◌, flat_map, append_assoc, append-nil}

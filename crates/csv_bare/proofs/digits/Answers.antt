@@ -1,6 +1,6 @@
 use mathlib.Core.Path.{refl, sym, ◌∙◌}
 use mathlib.Core.Bool.{and-false}
-use Prim.Native.Nat.{◌-◌, ◌/◌}
+use Prim.Native.Nat.{◌/◌}
 use native.Mathlib.Omega.{arith}
 use borrow.Author.Tests.{lt-ltb, le-ltb, le-leb, lt-leb}
 use lib.ListN.{get_or}

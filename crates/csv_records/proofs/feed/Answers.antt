@@ -1,4 +1,3 @@
-use Prim.Native.Nat.{◌-◌}
 use native.Mathlib.Omega.{arith}
 use lib.ListN.{drop_of_length-le}
 use Rattle.csv_records.specs.Automaton.{feed_all, emitted}

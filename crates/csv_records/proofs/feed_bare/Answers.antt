@@ -1,10 +1,9 @@
 use mathlib.Core.Path.{sym, ◌∙◌}
-use Prim.Native.Nat.{◌≤◌, ◌-◌}
+use Prim.Native.Nat.{◌≤◌}
 use native.Mathlib.Omega.{arith}
 use borrow.Author.Rules.{rules}
 use lib.ListN.{length}
 use Rattle.csv_field.specs.Field.{most64}
-use borrow.Author.Tests.{not-false}
 use Rattle.csv_records.specs.BareLaws.{bare_way, end_closes, turn_none, turn_then, turn_field}
 use Rattle.csv_records.proofs.feed_bare.Goals as goal
 
