@@ -1,7 +1,7 @@
 use Rattle.c_answers.proofs.tell_outcome.Goals as goal
 
 pub returns-in-Ran : goal.returns-in-Ran
-returns-in-Ran c = rw c.o-1.given.1 c.accepted.ensures
+returns-in-Ran c = rw c.in-Ran.is c.accepted.ensures
 
 pub returns-in-Refused : goal.returns-in-Refused
-returns-in-Refused c = rw c.o-in-Refused-1.given.1 c.refused.ensures
+returns-in-Refused c = rw c.in-Refused.is c.refused.ensures

@@ -1,5 +1,5 @@
 use mathlib.Core.Path.{refl, sym, ◌∙◌}
-use borrow.Author.Tests.{leb-true, leb-false, not-true, not-false}
+use borrow.Author.Tests.{leb-true, leb-false}
 use Rattle.capi.specs.Files.{KindRead}
 use Rattle.capi.proofs.splicetuck_read_records.Goals as goal
 

@@ -12,7 +12,7 @@ unfolding timer_count
 returns c =
     let w = c.check-w.ensures in
     let a = c.args in
-    let t : Tables = tables_of a.chart a.states.now a.moves.now a.presets.now a.timer-pairs.now a.output-pairs.now in
+    let t : Tables = tables_of a.chart a.states.now a.moves.now a.presets.now a.timer_pairs.now a.output_pairs.now in
     let lent : MovesLent t a.chart.inputs (length a.presets.now) a.states.now a.moves.now = record { inputs = refl; timers = refl; states = refl; moves = refl } in
     let e : verdict t ≡ c.check-w.result.verdict = sym w.answer in
     record { why = w.answer; written = rw w.answer at (c.put_page-n.ensures t lent w e) }

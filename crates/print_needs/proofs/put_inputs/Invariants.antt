@@ -8,7 +8,7 @@ use Rattle.print_needs.specs.Names.{NamesPut}
 use Rattle.print_needs.proofs.put_inputs.Given as goal
 
 abbrev pub invariant-loop-n : goal.invariant-loop-n
-invariant-loop-n l = let n = l.n in (n ≤ 64) × NamesPut l.w l.initial.p (names_of (λ n. operand_text (Ix n)) (input_on l.initial.out) n) l.out l.p
+invariant-loop-n l = let n = l.n in (n ≤ 64) × NamesPut l.initial.out l.initial.p (names_of (λ n. operand_text (Ix n)) (input_on l.w) n) l.out l.p
 
 abbrev pub decreases-loop-n : goal.decreases-loop-n
 decreases-loop-n l = 64 - l.n

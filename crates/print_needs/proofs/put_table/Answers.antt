@@ -23,16 +23,13 @@ pub loop-i-preserved : goal.loop-i-preserved
 loop-i-preserved c =
     let b = c.loop-i in
     let z : 0 + b.i ≡ b.i = omega arith in
-    let y : length c.put_move-p.new.0 ≡ length b.out = search rules in (
+    let y : length c.put_move-p.new.out ≡ length b.out = search rules in (
       omega arith,
       y ∙ b.invariant.1,
       λ c' l g.
           let h : b.i < move_count c' = omega (arith, move_count_lem c' c.args.moves.now l.moves) in
           rw (add-one, rows_snoc (needs_line c') 0 b.i, z) (put_put (b.invariant.2 c' l g) (c.put_move-p.ensures c' l (g b.i h))),
     )
-
-pub shape_of-out : goal.shape_of-out
-shape_of-out c = c.loop-i.invariant.1 ∙ put_length c.put_bytes-p.ensures
 
 pub returns : goal.returns
 unfolding needs_table line

@@ -12,8 +12,8 @@ use Rattle.check_literals.specs.Places.{LiteralsPass}
 use Rattle.print_needs.proofs.put_table.Given as goal
 
 abbrev pub invariant-loop-i : goal.invariant-loop-i
-invariant-loop-i l = (l.i ≤ length l.initial.out / 11) × (length l.out ≡ length l.at)
-    × ((c : Tables) → MovesLent c l.timers l.states l.moves l.initial.out → LiteralsPass c → BytesPut l.at l.initial.p (flat_map (needs_line c) (table (λ k. k) 0 l.i)) l.out l.p)
+invariant-loop-i l = (l.i ≤ length l.moves / 11) × (length l.out ≡ length l.initial.out)
+    × ((c : Tables) → MovesLent c l.inputs l.timers l.states l.moves → LiteralsPass c → BytesPut l.initial.out l.initial.p (flat_map (needs_line c) (table (λ k. k) 0 l.i)) l.out l.p)
 
 abbrev pub decreases-loop-i : goal.decreases-loop-i
-decreases-loop-i l = length l.initial.out / 11 - l.i
+decreases-loop-i l = length l.moves / 11 - l.i

@@ -23,9 +23,6 @@ loop-n-preserved c =
     let f : input_on w (suc b.n) ≡ eqb (w / 2 ^ b.n % 2) 1 = rw (input_on, e) in
     (omega arith, rw (add-one, names_more (λ t. operand_text (TimerQ t)) (input_on w) b.n, f) (names_names b.invariant.1 (rw add-one at c.put_timer-p.ensures)))
 
-pub shape_of-out : goal.shape_of-out
-shape_of-out c = put_length c.loop-n.invariant.1.put
-
 pub returns : goal.returns
 returns c =
     let e : c.loop-n.n ≡ 32 = omega arith in

@@ -8,7 +8,7 @@ use Rattle.print_needs.specs.Names.{NamesPut}
 use Rattle.print_needs.proofs.put_timers.Given as goal
 
 abbrev pub invariant-loop-n : goal.invariant-loop-n
-invariant-loop-n l = (l.n ≤ 32) × NamesPut l.w l.initial.p (names_of (λ t. operand_text (TimerQ t)) (input_on l.initial.out) l.n) l.out l.p
+invariant-loop-n l = (l.n ≤ 32) × NamesPut l.initial.out l.initial.p (names_of (λ t. operand_text (TimerQ t)) (input_on l.w) l.n) l.out l.p
 
 abbrev pub decreases-loop-n : goal.decreases-loop-n
 decreases-loop-n l = 32 - l.n

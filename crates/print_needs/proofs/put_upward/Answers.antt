@@ -28,9 +28,6 @@ loop-k-preserved c =
           (rw add-one u, rw (add-one, above_more c' s b.k, ← u) (put_put (b.invariant.2 c' e).1 (put_put p q))),
     )
 
-pub shape_of-out : goal.shape_of-out
-shape_of-out c = c.loop-k.invariant.1 ∙ put_length c.put_decimal-p.ensures
-
 pub returns : goal.returns
 returns c c' e =
     let b = c.loop-k in

@@ -9,8 +9,8 @@ use Rattle.print_needs.specs.Lines.{above_of}
 use Rattle.print_needs.proofs.put_upward.Given as goal
 
 abbrev pub invariant-loop-k : goal.invariant-loop-k
-invariant-loop-k l = (l.k ≤ l.initial.out) × (length l.out ≡ length l.at)
-    × ((c : Tables) → c.states ≡ l.s → (l.t ≡ up c l.k l.levels) × BytesPut l.at l.initial.p (above_of c l.levels l.k) l.out l.p)
+invariant-loop-k l = (l.k ≤ l.levels) × (length l.out ≡ length l.initial.out)
+    × ((c : Tables) → c.states ≡ l.states → (l.t ≡ up c l.k l.s) × BytesPut l.initial.out l.initial.p (above_of c l.s l.k) l.out l.p)
 
 abbrev pub decreases-loop-k : goal.decreases-loop-k
-decreases-loop-k l = l.initial.out - l.k
+decreases-loop-k l = l.levels - l.k

@@ -47,6 +47,6 @@ returns c = λ a h frame e.
       states = narrowed_is 0 514 low16 (2 * rows_of a.states) s.states.now _ _ c.narrow_16.ensures ns i;
       moves = narrowed_is (pos 0) 5643 signed_of (move_row * rows_of a.moves) s.moves.now _ _ c.narrow_signed.ensures nm i;
       presets = narrowed_is 0 33 low32 (rows_of a.presets) s.presets.now _ _ c.narrow_32.ensures nd i;
-      timer_pairs = narrowed_is 0 4098 low16 (2 * rows_of a.timer_pairs) s.timer-pairs.now _ _ c.narrow_16-2.ensures nt i;
-      output_pairs = narrowed_is 0 4098 low16 (2 * rows_of a.output_pairs) s.output-pairs.now _ _ c.narrow_16-3.ensures no i;
+      timer_pairs = narrowed_is 0 4098 low16 (2 * rows_of a.timer_pairs) s.timer_pairs.now _ _ c.narrow_16-2.ensures nt i;
+      output_pairs = narrowed_is 0 4098 low16 (2 * rows_of a.output_pairs) s.output_pairs.now _ _ c.narrow_16-3.ensures no i;
     }) nx (c.print_tables.ensures (omega (arith, length-take c.ones-n_x.result s.scans.now, c.ones-n_x.ensures, h.scans)))

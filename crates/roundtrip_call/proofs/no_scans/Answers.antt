@@ -3,7 +3,7 @@ use Rattle.roundtrip_call.specs.WrittenRan.{no_scans}
 use Rattle.roundtrip_call.proofs.no_scans.Goals as goal
 
 pub returns-in-Refused : goal.returns-in-Refused
-returns-in-Refused c = sym (ap no_scans (sym c.check-v.ensures ∙ c.v-1.given.1))
+returns-in-Refused c = sym (ap no_scans (sym c.check-v.ensures ∙ c.in-Refused.is))
 
 pub returns-in-Accepted : goal.returns-in-Accepted
-returns-in-Accepted c = sym (ap no_scans (sym c.check-v.ensures ∙ c.enum_told-1.given.1))
+returns-in-Accepted c = sym (ap no_scans (sym c.check-v.ensures ∙ c.in-Accepted.is))

@@ -5,16 +5,13 @@ use Rattle.roundtrip_call.specs.WholeLaws.{read_fits, read_refused, words_front,
 use Rattle.roundtrip_call.proofs.read_and_run.Goals as goal
 
 pub slice_bounds-run_words-end : goal.slice_bounds-run_words-end
-slice_bounds-run_words-end c = omega (arith, read_fits _ c.read-read.ensures c.read-in-Read-1.given.1, c.read-read.auto.1.0)
-
-pub slice_bounds-run_words-end-in-Read : goal.slice_bounds-run_words-end-in-Read
-slice_bounds-run_words-end-in-Read c = sym (length-take-le _ _ (slice-reshare-prefix-run-words c.before))
+slice_bounds-run_words-end c = omega (arith, read_fits _ c.read-read.ensures c.in-Read.is, c.read-read.auto.out)
 
 pub returns-in-Refused : goal.returns-in-Refused
-returns-in-Refused c c' d e R f h p q = absurd (read_refused c' R _ _ _ _ f h c.read-read.ensures _ c.read-1.given.1)
+returns-in-Refused c c' d e R f h p q = absurd (read_refused c' R _ _ _ _ f h c.read-read.ensures _ c.in-Refused.is)
 
 pub returns-in-Read : goal.returns-in-Read
 returns-in-Read c c' d e R f h p q =
     let t = c.read-read.ensures in
-    let g = c.read-in-Read-1.given.1 in
+    let g = c.in-Read.is in
     read_done c' R _ _ _ _ f h t _ g _ _ _ (c.run_words.ensures c' d e R (words_front c' R _ _ _ _ f h t _ g) p q)

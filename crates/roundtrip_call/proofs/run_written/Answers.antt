@@ -23,16 +23,13 @@ pub slice_bounds-read_and_run-end : goal.slice_bounds-read_and_run-end
 slice_bounds-read_and_run-end c =
     let a = c.args in
     let w = c.write-w in
-    let n = wrote_short _ a.inputs.now a.text.now a.words.now a.leaves.now a.outputs.now c.if-leaves-inputs.false c.if-outputs-inputs.false _ c.shorter-room.ensures _ _ w.ensures _ c.w-in-Wrote-1.given.1 in
-    omega (arith, n, length_front a.text.now w.new.1.1.1.1.1.1.0 c.shorter-room.result w.auto.1.1.1.1.1.1.0)
-
-pub slice_bounds-read_and_run-end-in-Wrote : goal.slice_bounds-read_and_run-end-in-Wrote
-slice_bounds-read_and_run-end-in-Wrote c = sym (length-take-le _ _ (slice-reshare-prefix-read-and-run c.before))
+    let n = wrote_short _ a.inputs.now a.text.now a.words.now a.leaves.now a.outputs.now c.if-leaves-inputs.false c.if-outputs-inputs.false _ c.shorter-room.ensures _ _ w.ensures _ c.in-Wrote.is in
+    omega (arith, n, length_front a.text.now w.new.out c.shorter-room.result w.auto.out)
 
 pub returns-in-Refused : goal.returns-in-Refused
 returns-in-Refused c =
     let a = c.args in
-    write_refused _ a.inputs.now a.text.now a.words.now a.leaves.now a.outputs.now c.if-leaves-inputs.false c.if-outputs-inputs.false _ c.shorter-room.ensures _ _ c.write-w.ensures _ c.w-1.given.1
+    write_refused _ a.inputs.now a.text.now a.words.now a.leaves.now a.outputs.now c.if-leaves-inputs.false c.if-outputs-inputs.false _ c.shorter-room.ensures _ _ c.write-w.ensures _ c.in-Refused.is
 
 pub returns-in-Wrote : goal.returns-in-Wrote
 returns-in-Wrote c =
@@ -41,6 +38,6 @@ returns-in-Wrote c =
     let q = c.if-outputs-inputs.false in
     let k = c.shorter-room.ensures in
     let w = c.write-w.ensures in
-    let e = c.w-in-Wrote-1.given.1 in
+    let e = c.in-Wrote.is in
     written_done _ a.inputs.now a.text.now a.words.now a.leaves.now a.outputs.now p q _ k _ _ w _ e _ _ _ _
     (c.read_and_run.ensures _ refl refl (wrote_rules _ a.inputs.now a.text.now a.words.now a.leaves.now a.outputs.now p q _ k _ _ w _ e) (wrote_front _ a.inputs.now a.text.now a.words.now a.leaves.now a.outputs.now p q _ k _ _ w _ e) (wrote_room _ a.inputs.now a.text.now a.words.now a.leaves.now a.outputs.now p q _ k _ _ w _ e) p q)

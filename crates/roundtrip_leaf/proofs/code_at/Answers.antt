@@ -21,16 +21,16 @@ unfolding flip_flop_on
 loop-i-preserved-then-flip_flop c =
     let a = c.args in
     let b = c.loop-i in
-    let e = code_more a.flip-flops.now a.first b.i a.width b.code (omega arith) b.invariant.0 b.invariant.3 true (sym c.flip_flop.ensures ∙ c.if-flip_flop.true) in
-    (omega arith, b.invariant.1, omega (arith, e, code_small a.flip-flops.now (a.first + (b.i - 1)) (a.width - (b.i - 1)) (omega arith)), omega (arith, e))
+    let e = code_more a.flip_flops.now a.first b.i a.width b.code (omega arith) b.invariant.0 b.invariant.3 true (sym c.flip_flop.ensures ∙ c.if-flip_flop.true) in
+    (omega arith, b.invariant.1, omega (arith, e, code_small a.flip_flops.now (a.first + (b.i - 1)) (a.width - (b.i - 1)) (omega arith)), omega (arith, e))
 
 pub loop-i-preserved : goal.loop-i-preserved
 unfolding flip_flop_on
 loop-i-preserved c =
     let a = c.args in
     let b = c.loop-i in
-    let e = code_more a.flip-flops.now a.first b.i a.width b.code (omega arith) b.invariant.0 b.invariant.3 false (sym c.flip_flop.ensures ∙ c.if-flip_flop.false) in
-    (omega arith, b.invariant.1, omega (arith, e, code_small a.flip-flops.now (a.first + (b.i - 1)) (a.width - (b.i - 1)) (omega arith)), omega (arith, e))
+    let e = code_more a.flip_flops.now a.first b.i a.width b.code (omega arith) b.invariant.0 b.invariant.3 false (sym c.flip_flop.ensures ∙ c.if-flip_flop.false) in
+    (omega arith, b.invariant.1, omega (arith, e, code_small a.flip_flops.now (a.first + (b.i - 1)) (a.width - (b.i - 1)) (omega arith)), omega (arith, e))
 
 pub returns : goal.returns
 returns c h =

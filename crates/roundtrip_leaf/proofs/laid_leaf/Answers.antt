@@ -8,19 +8,19 @@ use Rattle.roundtrip_leaf.specs.ShownLaws.{initial_some, sub_most, shown_start, 
 use Rattle.roundtrip_leaf.proofs.laid_leaf.Goals as goal
 
 pub loop-k-init : goal.loop-k-init
-loop-k-init c = (omega arith, λ c' e R o. (shown_start c' R c.args.flip-flops.now, omega arith))
+loop-k-init c = (omega arith, λ c' e R o. (shown_start c' R c.args.flip_flops.now, omega arith))
 
 pub returns-then-initial-eq0 : goal.returns-then-initial-eq0
 returns-then-initial-eq0 c c' e R o =
     let b = c.loop-k in
-    let fs = c.args.flip-flops.now in
+    let fs = c.args.flip_flops.now in
     let i = b.invariant.1 c' e R o in
     (sym (shown_stops c' R fs (8 - b.k) b.s (sym (c.initial.ensures c' e) ∙ c.if-initial-eq0.true)) ∙ i.0, i.1)
 
 pub loop-k-preserved : goal.loop-k-preserved
 loop-k-preserved c =
     let b = c.loop-k in
-    let fs = c.args.flip-flops.now in (
+    let fs = c.args.flip_flops.now in (
       omega arith,
       λ c' e R o.
           let i = b.invariant.1 c' e R o in

@@ -16,8 +16,8 @@ pub returns : goal.returns
 unfolding coded_sub_state
 returns c c' e R o h =
     let a = c.args in
-    let f = first_at c' a.t2 o R.size.few_states a.a h in
-    let w = width_at c' a.t2 o R.size.few_states a.a h in
-    let k : c.code_at.result ≡ code_at a.flip-flops.now (group_first c' a.a) (group_width c' a.a) =
+    let f = first_at c' a.laid o R.size.few_states a.a h in
+    let w = width_at c' a.laid o R.size.few_states a.a h in
+    let k : c.code_at.result ≡ code_at a.flip_flops.now (group_first c' a.a) (group_width c' a.a) =
     rw (f, w) at (c.code_at.ensures (rw w (group_narrow c' R a.a))) in
     c.sub_with_code.ensures c' e ∙ ap (λ n. least (coded c' a.a n) 0 (state_count c')) k
