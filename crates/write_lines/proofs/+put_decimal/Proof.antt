@@ -1,6 +1,6 @@
 use borrow.Author.Rules.{rules}
 use native.Mathlib.Omega.{arith}
-use Rattle.format.specs.Laws.Decimals.{decimal_small, decimal_last}
+use Rattle.format.proofs.Laws.Decimals.{decimal_small, decimal_last}
 use Rattle.write_lines.specs.Put.{put_put}
 use Prim.Native.Nat.{ℕ, ◌<◌}
 use borrow.Fn.Kinds.{In}
