@@ -14,14 +14,14 @@ then_of (exit n) = skip
 then_of return = skip
 then_of (call f xs d) = skip
 
-abbrev pub rest_of : Body → Body
-rest_of (seq a b) = b
-rest_of (cond c a b) = skip
-rest_of skip = skip
-rest_of (assign p v) = skip
-rest_of (block b) = skip
-rest_of (loop b) = skip
-rest_of (switch c xs) = skip
-rest_of (exit n) = skip
-rest_of return = skip
-rest_of (call f xs d) = skip
+abbrev pub after_first : Body → Body
+after_first (seq a b) = b
+after_first (cond c a b) = skip
+after_first skip = skip
+after_first (assign p v) = skip
+after_first (block b) = skip
+after_first (loop b) = skip
+after_first (switch c xs) = skip
+after_first (exit n) = skip
+after_first return = skip
+after_first (call f xs d) = skip

@@ -54,7 +54,7 @@ use Rattle.il_times.specs.Sizes.{rungs_in, no_rungs}
 use Rattle.il_block.specs.Called.{in_its_time}
 use Rattle.il_run.specs.Row.{in_time}
 use Rattle.il_run.specs.RowLaws.{time_on, time_end}
-use Rattle.il_run.specs.Body.{rest_of}
+use Rattle.il_run.specs.Body.{after_first}
 use Rattle.il_times.specs.contracts.times_of as times-of-fn
 use Rattle.il_times.proofs.times_of.Symbol as times-of-def
 use Rattle.il_times.proofs.times_of.Symbol.{name as #controller·times-of}
@@ -78,7 +78,7 @@ stayed = (stay_none_slice (0 ∷ []) tt (plain (λ _. T.the_row)) yes, (stay_non
 
 -- the turn, from its fourth statement on
 abbrev more : Body
-more = rest_of (rest_of (rest_of mir.turn-1))
+more = after_first (after_first (after_first mir.turn-1))
 
 abbrev mach-T : Block → Val
 mach-T s = LL.tuple_val T.the_type T'.the_laws ((T.the_type).to s)

@@ -50,7 +50,7 @@ use Rattle.meaning.proofs.Block.TheLaws as T'
 use Rattle.il_values.specs.Value.{with_bit}
 use Rattle.il_run.specs.Row.{q_word}
 use Rattle.il_run.specs.RowLaws.{q_on, q_end}
-use Rattle.il_run.specs.Body.{rest_of}
+use Rattle.il_run.specs.Body.{after_first}
 use Rattle.il_run.specs.contracts.at as at_fn
 use Rattle.il_run.proofs.at.Symbol as at-def
 use Rattle.il_run.proofs.at.Symbol.{name as #row·at}
@@ -70,7 +70,7 @@ stayed = (stay_none_slice (0 ∷ []) tt (plain (λ _. T.the_row)) yes, tt)
 
 -- the turn, from its fourth statement on
 abbrev more : Body
-more = rest_of (rest_of (rest_of mir.turn-1))
+more = after_first (after_first (after_first mir.turn-1))
 
 abbrev mach-T : Block → Val
 mach-T s = LL.tuple_val T.the_type T'.the_laws ((T.the_type).to s)

@@ -50,7 +50,7 @@ use Rattle.meaning.proofs.Block.TheLaws as T'
 use Rattle.il_run.specs.Row.{RowScan, RowRun}
 use Rattle.il_run.specs.RowLaws.{RanOn, run_start, run_turn, run_end}
 use Rattle.il_run.specs.Lent.{LentAgain, lends_again, comes_back}
-use Rattle.il_run.specs.Body.{rest_of}
+use Rattle.il_run.specs.Body.{after_first}
 use Rattle.slices.specs.contracts.word as word-fn
 use Rattle.slices.proofs.word.Symbol as word-def
 use Rattle.slices.proofs.word.Symbol.{name as #slices·word}
@@ -74,7 +74,7 @@ stayed = (stay_none_slice (0 ∷ []) tt (plain (λ _. u32)) yes, (stay_dropped (
 
 -- the turn, from its fourth statement on
 abbrev more : Body
-more = rest_of (rest_of (rest_of mir.turn-1))
+more = after_first (after_first (after_first mir.turn-1))
 
 abbrev mach-T : Block → Val
 mach-T s = LL.tuple_val T.the_type T'.the_laws ((T.the_type).to s)

@@ -57,7 +57,7 @@ use Rattle.il_scan.specs.Run.{advanced, resumed, fresh_registers, ScanPoint, who
 use Rattle.il_scan.specs.Advance.{StopKnown, ScanTurn, turn_last, turn_on}
 use Rattle.il_run.specs.Row.{q_word, scan_of, RowScan}
 use Rattle.il_run.specs.Lent.{LentAgain, lends_again, comes_back, SharedOut, shares_out, comes_home}
-use Rattle.il_run.specs.Body.{rest_of}
+use Rattle.il_run.specs.Body.{after_first}
 use Rattle.il_run.specs.contracts.q_word as q-word-fn
 use Rattle.il_run.proofs.q_word.Symbol as q-word-def
 use Rattle.il_run.proofs.q_word.Symbol.{name as #row·q-word}
@@ -93,7 +93,7 @@ stayed = (stay_none_slice (0 ∷ []) tt (plain (λ _. u32)) yes, (stay_dropped (
 
 -- the turn, from its branch on
 abbrev branch : Body
-branch = rest_of (rest_of (rest_of (rest_of (rest_of mir.turn-1))))
+branch = after_first (after_first (after_first (after_first (after_first mir.turn-1))))
 
 is_true : (t : Bool) → Holds t → t ≡ true
 is_true true h = refl
