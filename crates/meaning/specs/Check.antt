@@ -1,6 +1,6 @@
 -- The verdict of the tables: an ordered list of checks, each over all its rows before the next begins. The tests
 -- here are for computing; what each check is about stands in document 01's words in Rules.antt, and
--- Laws/Rules.antt proves that each test passes exactly where its rule is kept (OVERLAP: where LITERAL passes).
+-- proofs/Laws/Rules.antt proves that each test passes exactly where its rule is kept (OVERLAP: where LITERAL passes).
 use Rattle.std.specs.Prelude.{ℕ, suc, ◌-◌, ◌%◌, Bool, true, false, ◌&&◌, ◌||◌, not, cond, List, [], ◌∷◌, length, leb}
 use Rattle.std.specs.Prelude.{ltb, eqb, ℤ, pos, negsuc, nat_abs}
 use Rattle.meaning.specs.Rows.{least, some, every}

@@ -1,6 +1,6 @@
 -- The rules that a chart's tables must keep, one record a rule, in document 01's words: this is what a reader holds
 -- against the document. The tests of Check.antt, which the verdict is computed by, are proved equal to these rules in
--- Laws/Rules.antt: for any tables, OVERLAP where LITERAL passes.
+-- proofs/Laws/Rules.antt: for any tables, OVERLAP where LITERAL passes.
 use Rattle.std.specs.Prelude.{◌≡◌, ◌≢◌, ◌⊎◌, ℕ, suc, ◌%◌, ◌≤◌, ◌<◌, true, List, length, ℤ, pos, nat_abs}
 use Rattle.meaning.specs.Tables.{Tables, most_states, most_depth, most_moves, most_inputs, most_outputs, most_timers}
 use Rattle.meaning.specs.Tables.{most_flip_flops, most_pairs, most_scan_step, most_preset, state_row, move_row}
