@@ -1,4 +1,5 @@
--- The Lamp chart of document 01: its text, and what the program prints for its seven files. Laws/Lamp.antt proves it.
+-- The Lamp chart of document 01: its text, and what the program prints for its seven files. proofs/Laws/Lamp.antt
+-- proves it.
 use Rattle.std.specs.Prelude.{◌≡◌, ℕ, List, ◌++◌}
 use Rattle.meaning.specs.Cases.{lamp}
 use Rattle.format.specs.Text.{bytes}

@@ -1,4 +1,4 @@
--- What must be believed, in the order in which it is best read; then what is proved of it.
+-- What must be believed, in the order in which it is best read; what is proved of it stands in proofs/Laws.
 pub mod Words
 pub mod Decode
 pub mod Text

@@ -1,5 +1,5 @@
 -- What --needs prints for the Lamp's files, and the page of the charts of document 01's cases (e) and (g).
--- Laws/NeedsCases.antt proves it.
+-- proofs/Laws/NeedsCases.antt proves it.
 use Rattle.std.specs.Prelude.{◌≡◌, ℕ, List, ◌++◌}
 use Rattle.meaning.specs.Tables.{Tables}
 use Rattle.meaning.specs.Cases.{returning, overlapping}

@@ -1,5 +1,6 @@
 -- What the program prints, as a function of the bytes of its seven files.
-use Rattle.std.specs.Prelude.{ℕ, suc, max, true, false, ◌&&◌, List, [], ◌∷◌, ◌++◌, map, length, get_or, leb, ltb, eqb, nat_abs}
+use Rattle.std.specs.Prelude.{ℕ, suc, max, true, false, ◌&&◌, List, [], ◌∷◌, ◌++◌, map, length, get_or, leb, ltb, eqb}
+use Rattle.std.specs.Prelude.{nat_abs}
 use Rattle.meaning.specs.Refusals.{number_of, place_of}
 use Rattle.meaning.specs.Tables.{Tables, state_row, move_row, pair_row}
 use Rattle.meaning.specs.Check.{Check, checks, verdict_of}

@@ -1,5 +1,6 @@
 -- Records of RFC 4180, where "LF alone also ends a record", and the decimals in them.
-use Rattle.std.specs.Prelude.{ℕ, ◌+◌, ◌*◌, ◌-◌, ◌^◌, Bool, true, false, ◌&&◌, cond, length, get_or, take, drop, leb, eqb, ℤ, pos, neg_ℤ}
+use Rattle.std.specs.Prelude.{ℕ, ◌+◌, ◌*◌, ◌-◌, ◌^◌, Bool, true, false, ◌&&◌, cond, length, get_or, take, drop, leb}
+use Rattle.std.specs.Prelude.{eqb, ℤ, pos, neg_ℤ}
 use mathlib.Core.List.{List, [], ◌∷◌, map, flat_map}
 use Rattle.meaning.specs.Programs.{all}
 use Rattle.meaning.specs.Literals.{between}

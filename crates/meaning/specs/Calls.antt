@@ -17,7 +17,10 @@ scans_check inputs results = record { refusal = λ p. R.Scans; rows = 1; passes 
 unfoldable pub chart_run_checks : Tables → List ℕ → List ℕ → List ℕ → List ℕ → List Check
 chart_run_checks c l inputs leaves outputs =
     checks c
-    ++ (state_check c l ∷ scans_check (length inputs) (length leaves) ∷ scans_check (length inputs) (length outputs) ∷ [])
+    ++ (state_check c l
+    ∷ scans_check (length inputs) (length leaves)
+    ∷ scans_check (length inputs) (length outputs)
+    ∷ [])
 
 -- "An accepted call writes its result from the front and keeps the rest of the slice."; asked only where it fits
 unfoldable pub overlaid : {A : Type 0} → List A → List A → List A

@@ -1,5 +1,5 @@
--- The small charts that document 01 works by hand, (a) to (h), as one table about the definitions. Laws/Cases.antt
--- proves it.
+-- The small charts that document 01 works by hand, (a) to (h), as one table about the definitions.
+-- proofs/Laws/Cases.antt proves it.
 use Rattle.std.specs.Prelude.{◌≡◌, ℕ, List, [], ◌∷◌, map, ℤ, pos, negsuc}
 use Rattle.meaning.specs.Tables.{Tables, preset_steps}
 use Rattle.meaning.specs.Layout.{width, code}

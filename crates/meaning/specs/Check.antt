@@ -1,12 +1,13 @@
 -- The verdict of the tables: an ordered list of checks, each over all its rows before the next begins. The tests
 -- here are for computing; what each check is about stands in document 01's words in Rules.antt, and
--- Laws/Rules.antt proves that each test passes exactly where its rule is kept (OVERLAP: where LITERAL passes).
-use Rattle.std.specs.Prelude.{ℕ, suc, ◌-◌, ◌%◌, Bool, true, false, ◌&&◌, ◌||◌, not, cond, List, [], ◌∷◌, length, leb, ltb, eqb, ℤ, pos, negsuc, nat_abs}
+-- proofs/Laws/Rules.antt proves that each test passes exactly where its rule is kept (OVERLAP: where LITERAL passes).
+use Rattle.std.specs.Prelude.{ℕ, suc, ◌-◌, ◌%◌, Bool, true, false, ◌&&◌, ◌||◌, not, cond, List, [], ◌∷◌, length, leb}
+use Rattle.std.specs.Prelude.{ltb, eqb, ℤ, pos, negsuc, nat_abs}
 use Rattle.meaning.specs.Rows.{least, some, every}
 use Rattle.meaning.specs.Tables.{Tables, most_states, most_depth, most_moves, most_inputs, most_outputs}
 use Rattle.meaning.specs.Tables.{most_timers}
-use Rattle.meaning.specs.Tables.{most_flip_flops, most_pairs, most_scan_step, most_preset, state_row, move_row, pair_row}
-use Rattle.meaning.specs.Tables.{literal_places}
+use Rattle.meaning.specs.Tables.{most_flip_flops, most_pairs, most_scan_step, most_preset, state_row, move_row}
+use Rattle.meaning.specs.Tables.{pair_row, literal_places}
 use Rattle.meaning.specs.Tables.{state_count, move_count, timer_count, pair_count, super_state, initial, cell}
 use Rattle.meaning.specs.Tables.{source}
 use Rattle.meaning.specs.Tables.{target, literal, preset, pair_number, pair_state}
@@ -100,7 +101,8 @@ idle_passes c i = every (λ j. runs_below c (source c i) (kind_of (nat_abs (lite
 
 -- the test for Overlap of Rules.antt: near, and no clash; it says the same where the literals of both moves pass
 unfoldable pub overlaps : Tables → ℕ → ℕ → Bool
-overlaps c i j = (at_or_above c (source c i) (source c j) || at_or_above c (source c j) (source c i)) && not (clash c i j)
+overlaps c i j =
+    (at_or_above c (source c i) (source c j) || at_or_above c (source c j) (source c i)) && not (clash c i j)
 
 unfoldable pub overlap_passes : Tables → ℕ → Bool
 overlap_passes c i = not (some (overlaps c i) 0 i)

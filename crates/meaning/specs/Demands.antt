@@ -1,5 +1,5 @@
--- Demands 2 and 3 as statements about a chart and a program. Laws/Demands.antt proves them of an accepted chart's own
--- program.
+-- Demands 2 and 3 as statements about a chart and a program. proofs/Laws/Demands.antt proves them of an accepted
+-- chart's own program.
 use Rattle.std.specs.Prelude.{◌≡◌, ℕ, ◌*◌, List, [], ◌∷◌, length}
 use Rattle.meaning.specs.Tables.{Tables, timer_count}
 use Rattle.meaning.specs.Layout.{flip_flop_count}

@@ -1,9 +1,9 @@
 -- The reading of a run for demand 3: it looks at the inputs and at the list of earlier leaves, the latest first,
 -- and at no stored bit. With the machine it shares how a move is chosen once it is known which timers are expired
 -- (`chosen`), where a mark leads below its target (`leads_below`, `follow`), the hierarchy (`above`, `on_the_way`,
--- `initial`), how an input is read (`input_on`), which states run a timer (`timer_runs`), N (`preset_steps`) and what is
--- seen at a leaf (`seen_at_leaf`). It shares neither the memory nor the timers: what a super-state remembers and how long
--- a timer has run are read off the list of leaves. So it says nothing against a fault in what is shared.
+-- `initial`), how an input is read (`input_on`), which states run a timer (`timer_runs`), N (`preset_steps`) and what
+-- is seen at a leaf (`seen_at_leaf`). It shares neither the memory nor the timers: what a super-state remembers and how
+-- long a timer has run are read off the list of leaves. So it says nothing against a fault in what is shared.
 use Rattle.std.specs.Prelude.{ℕ, zero, suc, Bool, true, false, ◌&&◌, cond, List, [], ◌∷◌, map, ltb}
 use Rattle.meaning.specs.Tables.{Tables, move_count, initial, target, mark, preset_steps}
 use Rattle.meaning.specs.Hierarchy.{above, on_the_way, timer_runs}

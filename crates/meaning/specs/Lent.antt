@@ -1,5 +1,6 @@
 -- A chart state as it is lent: one slice, a code for each super-state by rising number, then a value for each timer.
-use Rattle.std.specs.Prelude.{ℕ, zero, suc, ◌+◌, ◌*◌, ◌%◌, Bool, ◌&&◌, ◌||◌, not, cond, List, [], ◌∷◌, ◌++◌, length, get_or, drop, leb, eqb}
+use Rattle.std.specs.Prelude.{ℕ, zero, suc, ◌+◌, ◌*◌, ◌%◌, Bool, ◌&&◌, ◌||◌, not, cond, List, [], ◌∷◌, ◌++◌, length}
+use Rattle.std.specs.Prelude.{get_or, drop, leb, eqb}
 use Rattle.meaning.specs.Rows.{least, some, every, count, table}
 use Rattle.meaning.specs.Tables.{Tables, state_count, timer_count, preset_steps}
 use Rattle.meaning.specs.Hierarchy.{sub_state, is_leaf, timer_runs}
@@ -23,7 +24,8 @@ lent_code c l a = get_or l (super_states_below c a) 0
 -- what each super-state remembers: the sub-state with the code that is lent (the number of states, which is no state,
 -- if it is nobody's code: such a slice does not pass)
 unfoldable pub lent_memory : Tables → List ℕ → List ℕ
-lent_memory c l = table (λ a. cond (is_leaf c a) 0 (least (coded c a (lent_code c l a)) 0 (state_count c))) 0 (state_count c)
+lent_memory c l =
+    table (λ a. cond (is_leaf c a) 0 (least (coded c a (lent_code c l a)) 0 (state_count c))) 0 (state_count c)
 
 -- the state that a slice stands for
 unfoldable pub state_of : Tables → List ℕ → State

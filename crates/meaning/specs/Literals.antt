@@ -1,5 +1,6 @@
 -- What a literal stands for, and when it holds.
-use Rattle.std.specs.Prelude.{ℕ, ◌+◌, ◌-◌, ◌/◌, ◌%◌, ◌^◌, Bool, true, false, ◌&&◌, cond, leb, eqb, ℤ, pos, negsuc, nat_abs}
+use Rattle.std.specs.Prelude.{ℕ, ◌+◌, ◌-◌, ◌/◌, ◌%◌, ◌^◌, Bool, true, false, ◌&&◌, cond, leb, eqb, ℤ, pos, negsuc}
+use Rattle.std.specs.Prelude.{nat_abs}
 use Rattle.std.specs.Bool.{beq}
 use Rattle.meaning.specs.Rows.{every}
 use Rattle.meaning.specs.Tables.{Tables, most_inputs, most_timers, literal_places, literal}

@@ -1,5 +1,6 @@
 -- What a chart does: document 01, "Meaning of a chart".
-use Rattle.std.specs.Prelude.{◌≡◌, ℕ, zero, suc, ◌+◌, ◌*◌, ◌-◌, ◌≤◌, ◌<◌, min, Bool, true, false, ◌&&◌, cond, List, [], ◌∷◌, length, get_or, leb, ltb}
+use Rattle.std.specs.Prelude.{◌≡◌, ℕ, zero, suc, ◌+◌, ◌*◌, ◌-◌, ◌≤◌, ◌<◌, min, Bool, true, false, ◌&&◌, cond, List, []}
+use Rattle.std.specs.Prelude.{◌∷◌, length, get_or, leb, ltb}
 use Rattle.meaning.specs.Rows.{least, table}
 use Rattle.meaning.specs.Tables.{Tables, most_depth, state_count, move_count, timer_count, initial, source, target}
 use Rattle.meaning.specs.Tables.{mark, preset, preset_steps}
@@ -68,7 +69,9 @@ timer_expired c l ts t = timer_runs c t l && leb (preset c t) (timer_value ts t)
 -- "A stored timer value stops growing at N scan steps."
 unfoldable pub timer_after : Tables → ℕ → ℕ → List ℕ → ℕ → ℕ
 timer_after c l l' ts t =
-    cond (timer_runs c t l && timer_runs c t l') (min (timer_value ts t + c.scan_step) (preset_steps c t * c.scan_step)) 0
+    cond (timer_runs c t l && timer_runs c t l')
+    (min (timer_value ts t + c.scan_step) (preset_steps c t * c.scan_step))
+    0
 
 -- "at first its initial one"; "It is 0 at the start"
 unfoldable pub start_state : Tables → State

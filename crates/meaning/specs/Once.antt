@@ -1,6 +1,6 @@
 -- No second answer: what that says of a contract. An outcome is the result, the lent slices at exit, or both. Each
--- library crate has a law for each of its public functions (specs/Once.antt; here Laws/Once.antt), about the very
--- predicate in its `ensures`; docs/PROMISES.md lists the exceptions.
+-- library crate has a law for each of its public functions (specs/Once.antt; here proofs/Laws/Once.antt), about the
+-- very predicate in its `ensures`; docs/PROMISES.md lists the exceptions.
 use Rattle.std.specs.Prelude.{◌≡◌, List, ℕ, ◌^◌, ◌<◌, get_or}
 
 -- any two outcomes that meet P are the same

@@ -1,10 +1,10 @@
 -- The rules that a chart's tables must keep, one record a rule, in document 01's words: this is what a reader holds
 -- against the document. The tests of Check.antt, which the verdict is computed by, are proved equal to these rules in
--- Laws/Rules.antt: for any tables, OVERLAP where LITERAL passes.
+-- proofs/Laws/Rules.antt: for any tables, OVERLAP where LITERAL passes.
 use Rattle.std.specs.Prelude.{◌≡◌, ◌≢◌, ◌⊎◌, ℕ, suc, ◌%◌, ◌≤◌, ◌<◌, true, List, length, ℤ, pos, nat_abs}
 use Rattle.meaning.specs.Tables.{Tables, most_states, most_depth, most_moves, most_inputs, most_outputs, most_timers}
-use Rattle.meaning.specs.Tables.{most_flip_flops, most_pairs, most_scan_step, most_preset, state_row, move_row, pair_row}
-use Rattle.meaning.specs.Tables.{literal_places}
+use Rattle.meaning.specs.Tables.{most_flip_flops, most_pairs, most_scan_step, most_preset, state_row, move_row}
+use Rattle.meaning.specs.Tables.{pair_row, literal_places}
 use Rattle.meaning.specs.Tables.{state_count, move_count, timer_count, pair_count, super_state, initial, cell, source}
 use Rattle.meaning.specs.Tables.{target, literal, preset, pair_number, pair_state}
 use Rattle.meaning.specs.Hierarchy.{up}
@@ -73,7 +73,8 @@ pub record PairRule (c : Tables) (many : ℕ) (ps : List ℕ) (i : ℕ) : Type 0
   pub high : pair_number ps i ≤ many
   pub state : pair_state ps i < state_count c
   pub ascending : (j : ℕ) → suc j ≡ i
-      → (pair_number ps j < pair_number ps i) ⊎ ((pair_number ps j ≡ pair_number ps i) × (pair_state ps j < pair_state ps i))
+      → (pair_number ps j < pair_number ps i)
+      ⊎ ((pair_number ps j ≡ pair_number ps i) × (pair_state ps j < pair_state ps i))
 
 -- a number of the moves table that names a state
 abbrev pub KnownState : Tables → ℤ → Type 0

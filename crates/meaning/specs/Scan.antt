@@ -1,5 +1,6 @@
 -- What instructions do to a controller: IEC 61131-3 as document 01 fixes it.
-use Rattle.std.specs.Prelude.{◌≡◌, ℕ, ◌+◌, ◌-◌, ◌≤◌, ◌<◌, min, Bool, true, false, ◌&&◌, ◌||◌, not, cond, length, get_or, set, drop, replicate, leb, eqb}
+use Rattle.std.specs.Prelude.{◌≡◌, ℕ, ◌+◌, ◌-◌, ◌≤◌, ◌<◌, min, Bool, true, false, ◌&&◌, ◌||◌, not, cond, length, get_or}
+use Rattle.std.specs.Prelude.{set, drop, replicate, leb, eqb}
 use mathlib.Core.List.{List, [], ◌∷◌, head_d}
 use Rattle.meaning.specs.Tables.{most_outputs}
 use Rattle.meaning.specs.Literals.{input_on}
@@ -167,7 +168,8 @@ executed_all d x (i ∷ is) w = executed_all d x is (executed d x i w)
 
 -- "an output the program never stores is off"
 unfoldable pub scan_begun : Controller → MidScan
-scan_begun k = record { result = false; deferred = []; time = 0; controller = k; outputs = replicate most_outputs false }
+scan_begun k =
+    record { result = false; deferred = []; time = 0; controller = k; outputs = replicate most_outputs false }
 
 -- the controller after a scan, and the output word
 unfoldable pub scanned : ℕ → ℕ → List Operator → Controller → Controller

@@ -119,7 +119,8 @@ move_rungs c i = rung_with (and_body (state_tests c (source c i) ++ literal_test
 
 -- 3. "Each flip-flop: LD working copy, ST flip-flop."
 unfoldable pub copy_rungs : Tables → ℕ → List Rung
-copy_rungs c b = rung_with (and_body (record { wanted = true; operand = working_copy c b } ∷ [])) (St (flip_flop c b) ∷ [])
+copy_rungs c b =
+    rung_with (and_body (record { wanted = true; operand = working_copy c b } ∷ [])) (St (flip_flop c b) ∷ [])
 
 -- 4. "the OR of its pairs' states, ST %QXo"
 unfoldable pub output_rungs : Tables → ℕ → List Rung

@@ -2,8 +2,8 @@
 #![tactic(auto)]
 
 ghost use Rattle.std.specs.Prelude.{◌≡◌, ◌+◌, ◌*◌, get_or, replicate, nat_abs};
-ghost use Rattle.meaning.specs.Tables.{Tables, super_state, initial, pair_number, pair_state, cell, source, target, mark};
-ghost use Rattle.meaning.specs.Tables.{literal};
+ghost use Rattle.meaning.specs.Tables.{Tables, super_state, initial, pair_number, pair_state, cell, source, target};
+ghost use Rattle.meaning.specs.Tables.{mark, literal};
 ghost use Rattle.meaning.specs.Hierarchy.{depth, sub_state, sub_states, is_leaf};
 ghost use Rattle.meaning.specs.Literals.{kind_of, wanted};
 
