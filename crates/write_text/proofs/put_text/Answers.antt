@@ -3,7 +3,6 @@ use Rattle.write_bits.specs.Sent.{laid, LaidTables}
 use Rattle.write_rungs.specs.SectionLaws.{timer_count_lem}
 use Rattle.write_text.specs.TextLaws.{text_put}
 use lib.ListN.{length}
-use borrow.Author.Rules.{rules}
 use Rattle.write_text.proofs.put_text.Goals as goal
 
 pub returns : goal.returns

@@ -1,7 +1,6 @@
 use mathlib.Core.Path.{refl, sym, ◌∙◌}
 use Rattle.meaning.proofs.Laws.Verdict.{accepted_exactly}
 use Rattle.write_text.specs.Texts.{refused_tables, accepted_tables}
-use borrow.Author.Rules.{rules}
 use Rattle.write_text.proofs.write.Goals as goal
 
 pub returns-in-Refused : goal.returns-in-Refused
