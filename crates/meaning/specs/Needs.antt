@@ -8,7 +8,7 @@
 -- Document 01's case (g): "1 to 2 on [2]" needs input 2 on and nothing off, "3 to 4 on [1]" needs input 1 on and
 -- nothing off; state 1 is above state 3, and nothing meets: with inputs 1 and 2 on both are enabled in state 3. In
 -- case (e) the move from 3 to 4 is on [1,-2]: it needs input 2 off, which the move from 1 to 2 needs on: a clash.
-use Rattle.std.specs.Prelude.{ℕ, max, Bool, true, false, ◌&&◌, ◌||◌, eqb, ℤ, nat_abs}
+use Rattle.std.specs.Prelude.{ℕ, max, Bool, true, false, ◌&&◌, ◌||◌, eqb, nat_abs}
 use Rattle.std.specs.Bool.{beq}
 use Rattle.meaning.specs.Rows.{some}
 use Rattle.meaning.specs.Tables.{Tables, most_inputs, most_timers, literal_places, literal, source}

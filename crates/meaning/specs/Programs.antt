@@ -1,5 +1,5 @@
 -- Programs as the grammar of document 01's "The written text" makes them, and their instructions.
-use Rattle.std.specs.Prelude.{ℕ, suc, ◌+◌, max, Bool, true, false, ◌&&◌, ◌||◌, cond, length, leb}
+use Rattle.std.specs.Prelude.{ℕ, suc, max, Bool, true, false, ◌&&◌, ◌||◌, cond, length, leb}
 use mathlib.Core.List.{List, [], ◌∷◌, ◌++◌, map, flat_map}
 use Rattle.meaning.specs.Tables.{most_timers, most_preset, most_inputs, most_outputs}
 use Rattle.meaning.specs.Literals.{between}

@@ -1,6 +1,6 @@
 -- What --needs prints for document 01's charts, computed from the definitions.
 use Rattle.std.specs.Prelude.{refl}
-use Rattle.meaning.specs.Cases.{move, lamp, nested, returning, overlapping}
+use Rattle.meaning.specs.Cases.{move, nested, returning, overlapping}
 use Rattle.format.proofs.Laws.Compute.{compute_all}
 use Rattle.format.specs.Lamp.{lamp_files}
 use Rattle.format.specs.NeedsCases.{needs_head, NeedsCases}

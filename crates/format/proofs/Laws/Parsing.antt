@@ -7,7 +7,7 @@ use mathlib.Core.List.{List, [], ◌∷◌, ◌++◌, map, flat_map, append_asso
 use Rattle.meaning.proofs.Laws.Rows.{which, and_l, and_r, and_both, or_cases, no_length}
 use Rattle.meaning.specs.Tables.{most_timers, most_preset}
 use Rattle.meaning.specs.Literals.{between}
-use Rattle.meaning.specs.Programs.{Test, Chain, Part, also, bracket, Body, Rung, TimerRung, Program, load_of, and_of, chain_of, part_of, body_of, rung_of, timer_rung_of, timer_rungs_from, instructions, all, testable, constant, load_fits, chain_fits, part_fits, body_fits, flip_flop_fits, store_fits, rung_fits, timer_rung_fits, program_fits}
+use Rattle.meaning.specs.Programs.{Test, Chain, Part, also, bracket, Rung, TimerRung, Program, load_of, and_of, chain_of, part_of, body_of, rung_of, timer_rung_of, timer_rungs_from, instructions, all, testable, constant, load_fits, chain_fits, part_fits, body_fits, flip_flop_fits, store_fits, rung_fits, timer_rung_fits, program_fits}
 use Rattle.meaning.specs.declared.Operand.TheVariants.{Mx, TimerIn, TimerPt, Timer, True}
 use Rattle.meaning.specs.declared.Operator.{Operator}
 use Rattle.meaning.specs.declared.Operator.TheVariants.{Or, Close, St, Cal, LdTime}
@@ -15,7 +15,7 @@ use Rattle.format.specs.declared.Phase.{Phase}
 use Rattle.format.specs.declared.Phase.TheVariants as P
 use Rattle.format.specs.declared.Reading.{Reading}
 use Rattle.format.specs.Decode.{operator_fits}
-use Rattle.format.specs.Automata.Phases.{at, begin, to, naming, settled, block, phase_step, phase_after_all, alive, may_end}
+use Rattle.format.specs.Automata.Phases.{at, begin, to, naming, block, phase_step, phase_after_all, alive, may_end}
 use Rattle.format.proofs.Laws.Phases.{StepsTo, begins, begins_next, begins_inside, adds, adds_inside, opens, closes, stores, stores_next, gives_in, gives_time, gives_pt, calls, at_yes, step_moves}
 use Rattle.format.proofs.Laws.Passing.{AcceptsFrom, testable_other, load_other}
 use Rattle.format.proofs.Laws.Continuing.{alive_before, SoundReading, begin_sound, moves_sound}

@@ -1,5 +1,5 @@
 -- A reader of lines: which line may come after those before it, and where a text may end.
-use Rattle.std.specs.Prelude.{◌≡◌, refl, ◌⊎◌, ℕ, suc, ◌≤◌, Bool, true, false, ◌&&◌, ◌||◌, not, cond, List, [], ◌∷◌, leb, eqb}
+use Rattle.std.specs.Prelude.{◌≡◌, refl, ◌⊎◌, ℕ, suc, ◌≤◌, Bool, true, false, ◌&&◌, ◌||◌, cond, List, [], ◌∷◌, leb, eqb}
 use Rattle.std.proofs.Common.{sym, ap, ◌∙◌, inl, inr, arith, leb-true, eqb-true, eq-eqb, le-leb}
 use Rattle.std.proofs.lemmas.Bool.{false≢true}
 use Rattle.meaning.proofs.Laws.Rows.{and_l, and_r, or_cases}

@@ -7,7 +7,7 @@ use Rattle.meaning.specs.Layout.{other_sub_state, code}
 use Rattle.meaning.specs.Lent.{coded}
 use Prim.Native.Nat.{ℕ, suc, ◌-◌}
 use lib.Dec.{eqb}
-use borrow.Author.Tests.{eq-eqb, ne_eqb, eqb-true, not-true, not-false}
+use borrow.Author.Tests.{eq-eqb, ne_eqb, eqb-true}
 use mathlib.Core.Bool.{true, cond}
 use mathlib.Core.Path.{◌≡◌, sym, ◌∙◌}
 use native.Mathlib.Omega.{arith}

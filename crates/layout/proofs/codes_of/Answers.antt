@@ -1,7 +1,6 @@
 use Rattle.meaning.specs.Layout.{other_sub_state}
 use Rattle.layout.specs.Laid.{row, given_code}
 use Rattle.layout.specs.LaidLaws.{tally_start, row_start}
-use Prim.Native.Nat.{◌-◌}
 use native.Mathlib.Omega.{arith}
 use mathlib.Core.Path.{ap, ◌∙◌}
 use Rattle.layout.proofs.codes_of.Goals as goal

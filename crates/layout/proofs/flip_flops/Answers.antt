@@ -1,7 +1,6 @@
 use Rattle.meaning.specs.Layout.{width, group_width, group_first}
 use Rattle.layout.specs.Laid.{laid_states}
 use Rattle.layout.specs.LaidLaws.{few_subs, tally_width, width_small}
-use Prim.Native.Nat.{◌-◌}
 use lib.ListN.{get_or}
 use native.Mathlib.Numerals.{add-one}
 use native.Mathlib.Omega.{arith}

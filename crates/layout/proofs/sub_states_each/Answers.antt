@@ -1,7 +1,6 @@
 use Rattle.meaning.specs.Hierarchy.{sub_state}
 use Rattle.layout.specs.Laid.{tally}
 use Rattle.layout.specs.LaidLaws.{tally_start}
-use Prim.Native.Nat.{◌-◌}
 use native.Mathlib.Omega.{arith}
 use mathlib.Core.Path.{ap, ◌∙◌}
 use Rattle.layout.proofs.sub_states_each.Goals as goal

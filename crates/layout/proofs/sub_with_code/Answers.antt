@@ -3,7 +3,6 @@ use Rattle.meaning.specs.Rows.{count}
 use Rattle.meaning.proofs.Laws.Rows.{least_at, least_none}
 use Rattle.meaning.specs.Tables.{state_count}
 use Rattle.meaning.specs.Lent.{coded}
-use Prim.Native.Nat.{◌-◌}
 use borrow.Author.Count.{below_none, below_more}
 use native.Mathlib.Numerals.{add-one}
 use native.Mathlib.Omega.{arith}

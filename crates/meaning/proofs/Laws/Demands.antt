@@ -5,7 +5,7 @@ use Rattle.std.proofs.Common.{sym, ◌∙◌, arith}
 use mathlib.Core.List.{List, [], ◌∷◌, map}
 use Rattle.meaning.specs.Tables.{Tables, initial}
 use Rattle.meaning.specs.Rules.{Rules}
-use Rattle.meaning.specs.Machine.{State, start_state, state_after_step, Seen, seen_in, trace, state_after_scans, Valid, word_of}
+use Rattle.meaning.specs.Machine.{State, start_state, state_after_step, Seen, seen_in, trace, Valid, word_of}
 use Rattle.meaning.proofs.Laws.Follow.{initial_leads}
 use Rattle.meaning.proofs.Laws.Machine.{table_leaf, start_valid, step_valid}
 use Rattle.meaning.specs.History.{first_leaf, history_reading}

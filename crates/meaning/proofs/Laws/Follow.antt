@@ -6,7 +6,6 @@ use Rattle.std.proofs.Math.Logic.{inl, inr}
 use Prim.Native.Nat.{ℕ, zero, suc, ◌+◌, ◌-◌, ◌≤◌, ◌<◌}
 use Rattle.std.proofs.Math.Decide.{ℕ_discrete, dec_le}
 use Rattle.std.proofs.Math.Bool.{true, false, true≢false}
-use Rattle.std.proofs.lemmas.Bool.{false≢true}
 use Rattle.meaning.proofs.Laws.Rows.{which, and_r}
 use Rattle.meaning.specs.Tables.{Tables, most_depth, state_count, initial}
 use Rattle.meaning.specs.Hierarchy.{depth, at_or_above, above, on_the_way, is_leaf}

@@ -1,8 +1,7 @@
 -- The tests of Hierarchy.antt say what Rules.antt says in words, for any tables.
-use Rattle.std.specs.Prelude.{◌≡◌, refl, ◌≢◌, ◌⊎◌, ◌↔◌, ℕ, zero, suc, ◌+◌, ◌-◌, ◌≤◌, true, false}
+use Rattle.std.specs.Prelude.{◌≡◌, refl, ◌⊎◌, ◌↔◌, ℕ, zero, suc, ◌+◌, ◌-◌, ◌≤◌, true, false}
 use Rattle.std.proofs.Common.{sym, ap, ◌∙◌, inl, inr, suc-add, zero-add, arith, true≢false, eqb-true, eq-eqb, lt-ltb, ltb-true}
 use Rattle.std.proofs.Math.Decide.{dec_le}
-use Rattle.std.proofs.lemmas.Bool.{false≢true}
 use Rattle.meaning.specs.Rows.{count}
 use Rattle.meaning.proofs.Laws.Rows.{which, and_l, and_r, count_past, count_none}
 use Rattle.meaning.proofs.Laws.Tells.{and_tells, some_tells, eqb_tells}

@@ -22,7 +22,7 @@ use Rattle.meaning.proofs.Laws.Hierarchy.{sub_state_tells, leaf_tells, no_leaf_t
 use Rattle.meaning.specs.Layout.{code}
 use Rattle.meaning.proofs.Laws.Layout.{code_initial, code_once}
 use Rattle.meaning.specs.Rules.{SubState, Leaf, Rules}
-use Rattle.meaning.specs.Machine.{State, remembered, timer_value, active_leaf, start_state, state_after_step, Valid}
+use Rattle.meaning.specs.Machine.{State, remembered, timer_value, active_leaf, start_state, Valid}
 use Rattle.meaning.proofs.Laws.Tree.{super_no_leaf}
 use Rattle.meaning.proofs.Laws.Follow.{super_known, initial_leads}
 use Rattle.meaning.proofs.Laws.Machine.{remembered_table, valid_sound, start_valid}

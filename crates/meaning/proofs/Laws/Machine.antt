@@ -18,7 +18,7 @@ use Rattle.meaning.proofs.Laws.Hierarchy.{leaf_tells, no_leaf_tells}
 use Rattle.meaning.specs.Literals.{between, kind_of, wanted, Setting, holds_as, holds, literals_hold, input_on}
 use Rattle.meaning.specs.Rules.{WithinCounts, Rules}
 use Rattle.meaning.proofs.Laws.Tree.{initial_leaf}
-use Rattle.meaning.specs.Machine.{State, remembered, timer_value, follow, active_leaf, enabled, chosen, leads_below, reached, remembers_after, memory_after_move, timer_expired, timer_after, start_state, setting, memory_after_step, state_after_step, seen_in, trace, state_after_scans, Valid}
+use Rattle.meaning.specs.Machine.{State, remembered, timer_value, follow, active_leaf, enabled, chosen, leads_below, reached, remembers_after, memory_after_move, timer_after, start_state, setting, memory_after_step, state_after_step, seen_in, trace, state_after_scans, Valid}
 use Rattle.meaning.proofs.Laws.Follow.{Leads, super_known, initial_leads, leaf_above, follow_ends, follow_same, below_leads, entered_leads, arrives, stays}
 
 -- ---- for any tables

@@ -1,11 +1,11 @@
 -- What a literal names tells its size, and what stands in the sets of a move tells a literal of it.
-use Rattle.std.specs.Prelude.{◌≡◌, refl, ◌⊎◌, ℕ, ◌+◌, ◌-◌, ◌≤◌, ◌<◌, Bool, true, false, ◌&&◌, ◌||◌, eqb, leb, nat_abs}
+use Rattle.std.specs.Prelude.{◌≡◌, refl, ◌⊎◌, ℕ, ◌+◌, ◌-◌, ◌≤◌, ◌<◌, Bool, true, false, ◌&&◌, eqb, leb, nat_abs}
 use Rattle.std.proofs.Common.{sym, ap, ◌∙◌, inl, inr, arith, eqb-true, eq-eqb, ne_eqb, leb-true, le-leb}
 use Rattle.std.specs.Bool.{beq}
 use Rattle.std.proofs.Math.Bool.{and-false, or_comm}
 use Rattle.std.proofs.lemmas.Bool.{false≢true, lt-leb}
 use Rattle.meaning.specs.Rows.{some}
-use Rattle.meaning.proofs.Laws.Rows.{which, same_test, and_l, and_r, and_both, or_l, or_r, or_cases, false_by, some_yes, some_intro}
+use Rattle.meaning.proofs.Laws.Rows.{which, same_test, and_l, and_r, and_both, or_l, or_r, or_cases, some_yes, some_intro}
 use Rattle.meaning.proofs.Laws.Rows.{every_yes, every_intro}
 use Rattle.meaning.specs.Tables.{Tables, most_inputs, most_timers, literal_places, literal}
 use Rattle.meaning.specs.Literals.{between, timer_offset, kind_of, wanted, Setting, holds_as, holds, literals_hold}

@@ -9,7 +9,7 @@ use Rattle.meaning.proofs.Laws.Rows.{which, and_l, and_r, and_both, or_cases, or
 use Rattle.meaning.specs.Tables.{Tables, literal_places, move_count, source, literal}
 use Rattle.meaning.specs.Hierarchy.{at_or_above}
 use Rattle.meaning.specs.Literals.{kind_of, wanted, Setting, literals_hold}
-use Rattle.meaning.specs.Needs.{Things, named_at, needed_by, needs_on, needs_off, meet, clash, union, just_on, both_on}
+use Rattle.meaning.specs.Needs.{Things, named_at, needed_by, needs_on, needs_off, meet, clash, just_on, both_on}
 use Rattle.meaning.specs.Rules.{Overlap, Rules}
 use Rattle.meaning.proofs.Laws.Hierarchy.{at_or_above_tells, one_above}
 use Rattle.meaning.proofs.Laws.Needs.{stands_in, stands_by, size_as, input_named, timer_named, inputs_known, timers_known, Fits, holds_fits, fits_holds, inputs_meet, timers_meet, meet_by, clash_back}

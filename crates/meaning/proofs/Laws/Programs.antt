@@ -23,7 +23,6 @@ use Rattle.meaning.proofs.Laws.Follow.{super_known}
 use Rattle.meaning.specs.Programs.{Test, also, bracket, Body, Rung, TimerRung, Program, load_of, and_of, chain_of, part_of, body_of, rung_of, timer_rung_of, timer_rungs_from, instructions, all, testable, flip_flop_fits, output_fits, constant, load_fits, chain_fits, part_fits, body_fits, store_fits, rung_fits, timer_rung_fits, program_fits, carried, bytes_for, flip_flop_bytes}
 use Rattle.meaning.specs.Scan.{blank, cleared, ValidController}
 use Rattle.meaning.specs.Written.{bits_from, group_bits, path_bits, bit_test, state_tests, kind_test, literal_tests, chain, or_body, and_body, pair_states, pairs_body, timer_rung, bit_store, initial_stores, stores_from, move_stores, rung_with, move_rungs, copy_rungs, output_rungs, program}
-use Rattle.meaning.specs.declared.Kind.TheVariants as K
 use Rattle.meaning.specs.declared.Operand.TheVariants.{Mx, Ix, TimerQ}
 use Rattle.meaning.specs.declared.Operator.{Operator}
 use Rattle.meaning.specs.declared.Operator.TheVariants as O

@@ -5,7 +5,6 @@ use Rattle.std.proofs.Common.{◌∙◌, true≢false}
 use Prim.Native.Nat.{ℕ, zero, suc, ◌+◌, ◌-◌, ◌≤◌, ◌<◌}
 use native.Mathlib.Omega.{arith}
 use Rattle.std.proofs.Math.Decide.{dec_le}
-use Rattle.std.proofs.lemmas.Bool.{false≢true}
 use Rattle.std.proofs.Math.ListN.{get_or-eq_default}
 use borrow.Author.Tests.{eqb-false, ne_eqb, not-true}
 use Rattle.meaning.proofs.Laws.Rows.{and_l, and_r, and_both, false_not}

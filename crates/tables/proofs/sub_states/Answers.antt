@@ -4,9 +4,7 @@ use Rattle.meaning.specs.Tables.{state_count}
 use Rattle.meaning.specs.Rows.{count}
 use native.Mathlib.Numerals.{add-one}
 use native.Mathlib.Omega.{arith}
-use mathlib.Core.Logic.{⊎_elim}
 use mathlib.Core.Path.{◌≡◌, refl, ap, sym, ◌∙◌}
-use Prim.Native.Nat.{◌-◌}
 use Rattle.tables.proofs.sub_states.Goals as goal
 use Rattle.tables.proofs.sub_states.Goals.{then-sub_state, else-sub_state}
 
