@@ -1,5 +1,5 @@
 -- The answers of a run over a lent chart state.
-use Rattle.std.specs.Prelude.{◌≡◌, refl, ◌≢◌, ℕ, ◌≤◌, ◌/◌, Bool, true, false, ◌&&◌, length, replicate, eqb}
+use Rattle.std.specs.Prelude.{◌≡◌, refl, ℕ, ◌≤◌, ◌/◌, Bool, true, false, ◌&&◌, length, replicate, eqb}
 use Rattle.std.proofs.Math.Path.{ap}
 use Rattle.std.proofs.Common.{◌∙◌, true≢false}
 use Rattle.std.proofs.Math.Bool.{cond}

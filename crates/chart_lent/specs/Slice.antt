@@ -1,7 +1,6 @@
 -- What a run over a lent chart state answers and leaves.
 use Rattle.std.specs.Prelude.{◌≡◌, ℕ, List, [], ◌∷◌, map, length, replicate}
 use Rattle.meaning.specs.Tables.{Tables}
-use Rattle.meaning.specs.Hierarchy.{is_leaf}
 use Rattle.meaning.specs.Machine.{Seen, trace, state_after_scans}
 use Rattle.meaning.specs.Lent.{state_of, lent_of}
 use Rattle.meaning.specs.Check.{verdict_of}

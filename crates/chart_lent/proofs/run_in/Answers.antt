@@ -1,11 +1,10 @@
-use borrow.Author.Rules.{rules}
 use native.Mathlib.Omega.{arith}
 use mathlib.Core.Path.{◌≡◌, refl, sym, ◌∙◌}
 use lib.ListN.{length}
 use lib.Dec.{eqb}
 use Prim.Native.Nat.{ℕ}
 use mathlib.Core.Bool.{true, ◌&&◌}
-use borrow.Author.Tests.{not-true, not-false, eqb-true}
+use borrow.Author.Tests.{eqb-true}
 use Rattle.meaning.proofs.Laws.Rows.{and_l, and_r}
 use Rattle.meaning.specs.Machine.{Valid}
 use Rattle.meaning.proofs.Laws.Machine.{after_valid}

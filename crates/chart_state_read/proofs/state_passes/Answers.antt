@@ -3,7 +3,6 @@ use mathlib.Core.Path.{◌≡◌, ap, sym, subst, ◌∙◌}
 use mathlib.Core.Bool.{true≢false}
 use Prim.Native.Nat.{ℕ, suc, ◌+◌, ◌<◌}
 use lib.ListN.{length, get_or, take}
-use borrow.Author.Tests.{not-true, not-false}
 use Rattle.meaning.specs.Tables.{state_count, timer_count}
 use Rattle.meaning.specs.Hierarchy.{paired}
 use Rattle.meaning.specs.Literals.{input_on}

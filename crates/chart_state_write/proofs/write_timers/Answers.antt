@@ -1,12 +1,11 @@
 use native.Mathlib.Omega.{arith}
 use mathlib.Core.Path.{◌≡◌, refl, sym, ◌∙◌}
-use Prim.Native.Nat.{suc, ◌-◌, ◌+◌}
+use Prim.Native.Nat.{suc, ◌+◌}
 use mathlib.Core.List.{[], ◌∷◌, append-nil, append_assoc}
 use lib.ListN.{take}
 use lib.Seq.{take-suc, take-suc-set}
 use native.Mathlib.Numerals.{add-one}
 use native.Mathlib.Nat.{add-zero}
-use Rattle.meaning.specs.Rows.{count}
 use Rattle.chart_state_write.proofs.write_timers.Goals as goal
 
 pub loop-i-init : goal.loop-i-init

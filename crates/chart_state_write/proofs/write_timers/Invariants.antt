@@ -2,7 +2,6 @@ use mathlib.Core.Path.{◌≡◌}
 use Prim.Native.Nat.{◌≤◌, ◌-◌, ◌+◌}
 use mathlib.Core.List.{◌++◌}
 use lib.ListN.{length, take}
-use Rattle.meaning.specs.Rows.{count}
 use Rattle.chart_state_write.proofs.write_timers.Given as goal
 
 abbrev pub invariant-loop-i : goal.invariant-loop-i
