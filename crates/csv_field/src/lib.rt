@@ -64,6 +64,7 @@ fn begin(most: u64, b: u8) -> FieldPhase
 }
 
 // A byte after a digit: "no .. leading zero".
+#[tactic(auto, unfolding(crate::specs::Field::number_after))]
 fn after_digit(limit: u64, quoted: bool, negative: bool, n: u64, b: u8) -> FieldPhase
     ensures { result ≡ number_after limit quoted negative n b }
 {
