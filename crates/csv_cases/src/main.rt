@@ -4,7 +4,6 @@
 
 use csv_cursor::Reader;
 use csv_records::RecordsAnswer;
-use std::alloc::{AllocError, Global};
 use std::io;
 use std::io::{Read, Write};
 
@@ -31,9 +30,11 @@ fn byte_of(b: u8) -> u8 {
     }
 }
 
-// The file that a line stands for.
-fn decode(alloc: Global, line: &[u8]) -> Result<Vec<u8>, AllocError> {
-    line.iter().map(|b| byte_of(*b)).collect(alloc)
+// The file that a line stands for, as far as it has room.
+fn decode(line: &[u8], file: &mut [u8]) {
+    for (to, b) in file.iter_mut().zip(line) {
+        *to = byte_of(*b);
+    }
 }
 
 // The file, a byte a call.
@@ -93,22 +94,31 @@ fn both(rt: &impl Print, r: Reader, file: &[u8]) -> io::Result<()> {
     println!(rt)
 }
 
-fn case<R: Print + AllocGlobal>(rt: &R, r: Reader, line: &[u8]) -> io::Result<()> {
-    let file = decode(rt.alloc(), line)?;
-    both(rt, r, &file)
+fn case(rt: &impl Print, r: Reader, line: &[u8], file: &mut [u8]) -> io::Result<()> {
+    decode(line, file);
+    let n = line.len();
+    if file.len() < n {
+        return Ok(());
+    }
+    both(rt, r, &file[..n])
 }
 
-fn show<R: Print + AllocGlobal>(rt: &R, line: &[u8]) -> io::Result<()> {
+fn show(rt: &impl Print, line: &[u8]) -> io::Result<()> {
     if line.len() == 0 {
         return Ok(());
     }
     io::writer(rt).write_all(line)?;
-    case(rt, reader_of(line[0]), &line[1..])
+    let mut file = [0u8; 80];
+    case(rt, reader_of(line[0]), &line[1..], &mut file)
 }
 
-fn cases<R: Print + AllocGlobal>(rt: &R, text: &[u8]) -> io::Result<()> {
-    for line in text.split(|b| *b == b'\n') {
-        show(rt, line)?;
+fn cases(rt: &impl Print, text: &[u8]) -> io::Result<()> {
+    let mut start = 0;
+    for (i, b) in text.iter().enumerate() {
+        if *b == 10 {
+            show(rt, &text[start..i])?;
+            start = i + 1;
+        }
     }
     Ok(())
 }
