@@ -1,5 +1,6 @@
 pub mod Row
 pub mod RowLaws
+pub mod Body
 pub mod Once
 pub mod Runs
 pub mod RunLaws
