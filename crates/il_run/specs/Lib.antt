@@ -1,6 +1,7 @@
 pub mod Row
 pub mod RowLaws
 pub mod Body
+pub mod Lent
 pub mod Once
 pub mod Runs
 pub mod RunLaws
