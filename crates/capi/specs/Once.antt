@@ -2,7 +2,7 @@
 use Rattle.std.specs.Prelude.{◌≡◌, ℕ, List}
 use Rattle.std.proofs.Common.{ap, subst}
 use Rattle.meaning.specs.Once.{Once}
-use Rattle.meaning.specs.Laws.Once.{two, three, four, five}
+use Rattle.meaning.proofs.Laws.Once.{two, three, four, five}
 use Rattle.meaning.specs.Tables.{Tables}
 use Rattle.meaning.specs.Check.{verdict}
 use Rattle.meaning.specs.Scan.{Controller as Lent}

@@ -1,7 +1,7 @@
 -- No second answer of the run of a chart, or of one scan of it.
 use Rattle.std.specs.Prelude.{List, ℕ, ℤ}
 use Rattle.meaning.specs.Once.{Once}
-use Rattle.meaning.specs.Laws.Once.{four, two}
+use Rattle.meaning.proofs.Laws.Once.{four, two}
 use Rattle.tables.specs.Given.{tables_of}
 use Rattle.tables.specs.declared.Chart.{Chart}
 use Rattle.meaning.specs.declared.Ran.{Ran}

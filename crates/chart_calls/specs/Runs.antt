@@ -1,17 +1,17 @@
 -- What a run of a chart over lent state answers and leaves, for any tables.
 use Rattle.std.specs.Prelude.{◌≡◌, refl, List, [], ◌∷◌, ◌++◌, map, ℕ, length, replicate, eqb}
 use Rattle.std.proofs.Common.{sym, ap, ◌∙◌, inl, inr}
-use Rattle.meaning.specs.Laws.Rows.{which}
+use Rattle.meaning.proofs.Laws.Rows.{which}
 use Rattle.meaning.specs.Tables.{Tables}
 use Rattle.meaning.specs.Check.{Check, first_failing, verdict_of, checks, verdict}
 use Rattle.check_tables.specs.Verdicts.{is_refused, stop, go}
 use Rattle.meaning.specs.Calls.{chart_run_checks}
 use Rattle.meaning.specs.Machine.{Seen, trace, state_after_scans}
 use Rattle.meaning.specs.Lent.{lent_length, state_of, lent_of}
-use Rattle.meaning.specs.Laws.Lent.{zero_start}
+use Rattle.meaning.proofs.Laws.Lent.{zero_start}
 use Rattle.meaning.specs.History.{history_reading}
-use Rattle.meaning.specs.Laws.History.{run_is_reading}
-use Rattle.meaning.specs.Laws.Verdict.{accepted_exactly}
+use Rattle.meaning.proofs.Laws.History.{run_is_reading}
+use Rattle.meaning.proofs.Laws.Verdict.{accepted_exactly}
 use Rattle.meaning.specs.declared.Refusal.{Refusal}
 use Rattle.meaning.specs.declared.Verdict.{Verdict}
 use Rattle.meaning.specs.declared.Verdict.TheVariants.{Accepted, Refused}

@@ -6,20 +6,20 @@ use Rattle.std.proofs.lemmas.Bool.{false≢true}
 use mathlib.Core.List.{List, [], ◌∷◌, ◌++◌, map, map-append}
 use borrow.Author.Tests.{eq-eqb, eqb-true}
 use Rattle.meaning.specs.Hierarchy.{is_leaf}
-use Rattle.meaning.specs.Laws.Rows.{which, count_le}
+use Rattle.meaning.proofs.Laws.Rows.{which, count_le}
 use Rattle.meaning.specs.Tables.{Tables, state_count}
 use Rattle.meaning.specs.Literals.{input_on}
 use Rattle.meaning.specs.Rules.{Rules}
 use Rattle.meaning.specs.Check.{checks, verdict}
 use Rattle.check_tables.specs.Verdicts.{is_refused, go}
 use Rattle.meaning.specs.Calls.{state_check, chart_run_checks}
-use Rattle.meaning.specs.Laws.Verdict.{accepted_exactly}
+use Rattle.meaning.proofs.Laws.Verdict.{accepted_exactly}
 use Rattle.meaning.specs.Machine.{State, Seen, start_state, state_after_step, seen_in, trace, state_after_scans}
-use Rattle.meaning.specs.Laws.Machine.{trace_append, after_append, after_valid, bits_above}
+use Rattle.meaning.proofs.Laws.Machine.{trace_append, after_append, after_valid, bits_above}
 use Rattle.meaning.specs.Lent.{super_states_below, lent_length, state_of, state_passes}
-use Rattle.meaning.specs.Laws.Lent.{lent_valid, valid_back, zero_passes, zero_start}
+use Rattle.meaning.proofs.Laws.Lent.{lent_valid, valid_back, zero_passes, zero_start}
 use Rattle.meaning.specs.History.{history_reading}
-use Rattle.meaning.specs.Laws.History.{run_is_reading}
+use Rattle.meaning.proofs.Laws.History.{run_is_reading}
 use Rattle.meaning.specs.declared.Refusal.{Refusal}
 use Rattle.meaning.specs.declared.Refusal.TheVariants as R
 use Rattle.meaning.specs.declared.Verdict.{Verdict}

@@ -4,7 +4,7 @@ use Rattle.std.proofs.Math.Path.{sym}
 use Rattle.std.proofs.Common.{◌∙◌, inl, inr}
 use mathlib.Core.List.{List, [], ◌∷◌, ◌++◌}
 use Rattle.meaning.specs.Rows.{least}
-use Rattle.meaning.specs.Laws.Rows.{which}
+use Rattle.meaning.proofs.Laws.Rows.{which}
 use Rattle.meaning.specs.Tables.{Tables}
 use Rattle.meaning.specs.Check.{Check, first_failing, verdict_of, checks}
 use Rattle.meaning.specs.Calls.{state_check, scans_check, chart_run_checks}

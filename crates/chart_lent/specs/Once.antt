@@ -2,7 +2,7 @@
 use Rattle.std.proofs.Common.{sym, ◌∙◌}
 use Rattle.std.specs.Prelude.{List, ℕ, ℤ}
 use Rattle.meaning.specs.Once.{Once}
-use Rattle.meaning.specs.Laws.Once.{four}
+use Rattle.meaning.proofs.Laws.Once.{four}
 use Rattle.meaning.specs.Tables.{Tables}
 use Rattle.meaning.specs.Rules.{Rules}
 use Rattle.tables.specs.declared.Chart.{Chart}

@@ -7,7 +7,7 @@ use mathlib.Core.List.{List, [], ◌∷◌}
 use Rattle.std.proofs.lemmas.List.{length-replicate}
 use borrow.Author.Tests.{eq-eqb}
 use Rattle.meaning.specs.Rows.{least}
-use Rattle.meaning.specs.Laws.Rows.{get_d_equal}
+use Rattle.meaning.proofs.Laws.Rows.{get_d_equal}
 use Rattle.meaning.specs.Tables.{Tables, state_count, move_count}
 use Rattle.meaning.specs.Machine.{State}
 use Rattle.meaning.specs.Lent.{state_of, lent_of, state_passes}

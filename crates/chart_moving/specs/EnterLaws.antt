@@ -10,14 +10,14 @@ use Rattle.std.proofs.Math.Bool.{true, false, cond}
 use Rattle.std.proofs.Math.ListN.{length-set}
 use Rattle.std.proofs.Math.Seq.{get_or-set_same, get_or-set_other, get_or-take}
 use borrow.Author.Tests.{eq-eqb, ne_eqb}
-use Rattle.meaning.specs.Laws.Rows.{which, and_l, and_r, and_both, same_test, false_by}
+use Rattle.meaning.proofs.Laws.Rows.{which, and_l, and_r, and_both, same_test, false_by}
 use Rattle.meaning.specs.Tables.{Tables, most_depth, state_count, move_count, super_state, initial, target, mark}
 use Rattle.meaning.specs.Hierarchy.{depth, at_or_above, above, on_the_way, is_leaf}
 use Rattle.meaning.specs.Rules.{Rules}
-use Rattle.meaning.specs.Laws.Tree.{depth_root, depth_sub, depth_zero, shallow, super_lt, over_yes, yes_over, above_yes, yes_above, over_le, over_lt, over_refl, over_trans, over_down, over_same, over_super, way_over, way_sub, initial_leaf}
-use Rattle.meaning.specs.Laws.Follow.{Leads, stays_at_leaf, descends, depth_below, over_below, over_descend, initial_leads}
+use Rattle.meaning.proofs.Laws.Tree.{depth_root, depth_sub, depth_zero, shallow, super_lt, over_yes, yes_over, above_yes, yes_above, over_le, over_lt, over_refl, over_trans, over_down, over_same, over_super, way_over, way_sub, initial_leaf}
+use Rattle.meaning.proofs.Laws.Follow.{Leads, stays_at_leaf, descends, depth_below, over_below, over_descend, initial_leads}
 use Rattle.meaning.specs.Machine.{remembered, descend, follow, leads_below, reached, remembers_after, memory_after_move}
-use Rattle.meaning.specs.Laws.Machine.{target_known}
+use Rattle.meaning.proofs.Laws.Machine.{target_known}
 use Rattle.chart_moving.specs.Moves.{set_above, set_below}
 use Rattle.chart_paths.specs.WalkLaws.{remembered_take, is_table}
 

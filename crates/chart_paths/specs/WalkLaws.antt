@@ -7,14 +7,14 @@ use Prim.Native.Nat.{ℕ, zero, suc, ◌+◌, ◌-◌, ◌≤◌, ◌<◌}
 use native.Mathlib.Omega.{arith}
 use borrow.Author.Tests.{eq-eqb, ne_eqb}
 use Rattle.meaning.specs.Rows.{table}
-use Rattle.meaning.specs.Laws.Rows.{which, length_table, get_d_table}
+use Rattle.meaning.proofs.Laws.Rows.{which, length_table, get_d_table}
 use Rattle.meaning.specs.Tables.{Tables, most_depth, state_count}
 use Rattle.meaning.specs.Hierarchy.{depth, is_leaf}
 use Rattle.meaning.specs.Rules.{Rules}
-use Rattle.meaning.specs.Laws.Tree.{shallow}
-use Rattle.meaning.specs.Laws.Follow.{Leads, stays_at_leaf, descends, super_known, depth_below, follow_same, follow_known}
+use Rattle.meaning.proofs.Laws.Tree.{shallow}
+use Rattle.meaning.proofs.Laws.Follow.{Leads, stays_at_leaf, descends, super_known, depth_below, follow_same, follow_known}
 use Rattle.meaning.specs.Machine.{remembered, descend, follow, active_leaf}
-use Rattle.meaning.specs.Laws.Machine.{SoundMemory}
+use Rattle.meaning.proofs.Laws.Machine.{SoundMemory}
 use Rattle.chart_paths.specs.Walk.{walk}
 
 -- ---- parts of an array

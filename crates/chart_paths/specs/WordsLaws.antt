@@ -10,14 +10,14 @@ use Rattle.std.proofs.Math.Bool.{Bool, false, and-true, and-false, or-false}
 use Rattle.std.proofs.Math.ListN.{get_or, get_or-eq_default}
 use Rattle.std.specs.Int.Bits.{bit_and}
 use Rattle.meaning.specs.Literals.{input_on}
-use Rattle.meaning.specs.Laws.Bits.{even, low_bit, half_bit, eqb_suc}
+use Rattle.meaning.proofs.Laws.Bits.{even, low_bit, half_bit, eqb_suc}
 use Rattle.meaning.specs.Machine.{word_of}
 use Rattle.meaning.specs.Rows.{table}
-use Rattle.meaning.specs.Laws.Rows.{some_none, length_table, get_d_table}
+use Rattle.meaning.proofs.Laws.Rows.{some_none, length_table, get_d_table}
 use Rattle.meaning.specs.Tables.{Tables, pair_count, pair_number, pair_state}
 use Rattle.meaning.specs.Hierarchy.{at_or_above, paired, output_on}
 use Rattle.meaning.specs.Rules.{Rules}
-use Rattle.meaning.specs.Laws.Outputs.{word_table}
+use Rattle.meaning.proofs.Laws.Outputs.{word_table}
 use Rattle.slices.specs.Numbers.{with_number}
 use Rattle.slices.specs.NumbersLaws.{numbered}
 

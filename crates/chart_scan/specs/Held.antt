@@ -2,7 +2,7 @@
 use Rattle.std.specs.Prelude.{◌≡◌, ℕ, ◌/◌, ◌≤◌, ◌<◌, List, map, length, get_or, take, ℤ}
 use Rattle.meaning.specs.Tables.{Tables, state_count, move_count, timer_count}
 use Rattle.meaning.specs.Machine.{State, Seen, trace, state_after_scans}
-use Rattle.meaning.specs.Laws.Machine.{SoundMemory}
+use Rattle.meaning.proofs.Laws.Machine.{SoundMemory}
 use Rattle.tables.specs.Given.{Lent}
 use Rattle.check_pairing.specs.Words.{PairedWords}
 use Rattle.check_needs.specs.Words.{need_words}

@@ -12,14 +12,14 @@ use Rattle.std.proofs.Math.ListN.{length, set, length-set}
 use Rattle.std.proofs.Math.Seq.{get_or-set_other}
 use Rattle.std.proofs.Math.Dec.{eqb}
 use borrow.Author.Tests.{eq-eqb, ne_eqb, eqb-true}
-use Rattle.meaning.specs.Laws.Rows.{which, and_l, and_r, and_both, some_intro, some_yes}
+use Rattle.meaning.proofs.Laws.Rows.{which, and_l, and_r, and_both, some_intro, some_yes}
 use Rattle.meaning.specs.Tables.{Tables, most_states, move_count, source}
 use Rattle.meaning.specs.Hierarchy.{up, depth, at_or_above}
-use Rattle.meaning.specs.Laws.Tree.{depth_root, depth_zero, depth_up}
+use Rattle.meaning.proofs.Laws.Tree.{depth_root, depth_zero, depth_up}
 use Rattle.meaning.specs.Literals.{Setting, literals_hold}
 use Rattle.meaning.specs.Rules.{Rules}
 use Rattle.meaning.specs.Machine.{enabled, chosen}
-use Rattle.meaning.specs.Laws.Overlap.{enabled_chosen, none_chosen}
+use Rattle.meaning.proofs.Laws.Overlap.{enabled_chosen, none_chosen}
 use Rattle.chart_scan.specs.Choice.{last_from, last_holding, LinkedTo}
 
 pub source_known : (c : Tables) → Rules c → (i : ℕ) → i < move_count c → source c i < most_states

@@ -12,7 +12,7 @@ use Rattle.chart_scan.specs.Choice.{read, HoldTo, LinkedTo}
 use Rattle.check_needs.specs.declared.ThingWords.{ThingWords}
 use Rattle.check_needs.specs.Words.{hold_words, need_words, needs_at}
 use Rattle.check_needs.specs.WordsLaws.{Small}
-use Rattle.meaning.specs.Laws.Once.{three}
+use Rattle.meaning.proofs.Laws.Once.{three}
 use Rattle.tables.specs.declared.Chart.{Chart}
 use Rattle.check_pairing.specs.Words.{PairedWords}
 use Rattle.chart_scan.specs.Held.{TablesGiven, Empty, StateScanned, held}

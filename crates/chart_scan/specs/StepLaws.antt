@@ -14,7 +14,7 @@ use Rattle.meaning.specs.Hierarchy.{timer_runs, paired}
 use Rattle.meaning.specs.Literals.{input_on}
 use Rattle.meaning.specs.Rules.{Rules}
 use Rattle.meaning.specs.Machine.{State, Valid, seen_in, trace, state_after_scans, timer_value, active_leaf, chosen, timer_expired, timer_after, setting, memory_after_step, memory_after_move, state_after_step, seen_at_leaf}
-use Rattle.meaning.specs.Laws.Machine.{SoundMemory, valid_sound, after_step, moved_sound, trace_append, after_append, chosen_same}
+use Rattle.meaning.proofs.Laws.Machine.{SoundMemory, valid_sound, after_step, moved_sound, trace_append, after_append, chosen_same}
 use Rattle.check_pairing.specs.Words.{Tree}
 use Rattle.chart_paths.specs.Words.{expired_at}
 use Rattle.chart_paths.specs.WalkLaws.{is_table}

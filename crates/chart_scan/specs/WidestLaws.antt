@@ -3,12 +3,12 @@ use Rattle.std.specs.Prelude.{◌≡◌, refl, ℕ, ◌<◌, true, replicate, na
 use Rattle.std.proofs.Common.{arith}
 use Rattle.std.proofs.lemmas.List.{length-replicate}
 use borrow.Author.Tests.{leb-true, le-leb}
-use Rattle.meaning.specs.Laws.Rows.{and_l, and_r, and_both, every_yes, every_intro}
+use Rattle.meaning.proofs.Laws.Rows.{and_l, and_r, and_both, every_yes, every_intro}
 use Rattle.meaning.specs.Tables.{Tables, most_inputs, most_timers, move_count, timer_count, cell, literal}
 use Rattle.meaning.specs.Literals.{Setting, kind_of, literals_hold}
 use Rattle.meaning.specs.Check.{within_counts, may_precede, place_passes, literal_passes}
 use Rattle.meaning.specs.Rules.{Rules}
-use Rattle.meaning.specs.Laws.Rules.{literal_tells}
+use Rattle.meaning.proofs.Laws.Rules.{literal_tells}
 use Rattle.meaning.specs.declared.Kind.{Kind}
 use Rattle.meaning.specs.declared.Kind.TheVariants.{Unused, Input, Timer, Unknown}
 

@@ -12,17 +12,17 @@ use Rattle.std.proofs.Math.Seq.{get_or-take, length-take-le, ext_get_or}
 use Rattle.std.proofs.Math.Dec.{ltb}
 use borrow.Author.Tests.{eq-eqb, ne_eqb, lt-ltb, le-ltb, eqb-true, ltb-true}
 use Rattle.meaning.specs.Rows.{least, some, every, count}
-use Rattle.meaning.specs.Laws.Rows.{which, false_by, and_l, some_no, some_yes, least_before, least_passes, least_none, every_yes, count_past, length_table, some_same}
+use Rattle.meaning.proofs.Laws.Rows.{which, false_by, and_l, some_no, some_yes, least_before, least_passes, least_none, every_yes, count_past, length_table, some_same}
 use Rattle.meaning.specs.Tables.{Tables, state_count, timer_count, preset, preset_steps, super_state, initial}
 use Rattle.meaning.specs.Hierarchy.{sub_state, is_leaf, paired, timer_runs}
-use Rattle.meaning.specs.Laws.Hierarchy.{sub_state_tells, leaf_tells}
+use Rattle.meaning.proofs.Laws.Hierarchy.{sub_state_tells, leaf_tells}
 use Rattle.meaning.specs.Layout.{group_width, group_first, code}
 use Rattle.meaning.specs.Literals.{input_on}
 use Rattle.meaning.specs.Rules.{Rules}
-use Rattle.meaning.specs.Laws.Rules as rule
-use Rattle.meaning.specs.Laws.Follow.{super_known}
+use Rattle.meaning.proofs.Laws.Rules as rule
+use Rattle.meaning.proofs.Laws.Follow.{super_known}
 use Rattle.meaning.specs.Machine.{remembered, timer_value, active_leaf}
-use Rattle.meaning.specs.Laws.Machine.{SoundMemory, remembered_table}
+use Rattle.meaning.proofs.Laws.Machine.{SoundMemory, remembered_table}
 use Rattle.meaning.specs.Lent.{super_states_below, lent_length, coded, lent_code, lent_memory, state_of, lent_codes, code_passes, timer_passes, state_passes}
 use Rattle.chart_paths.specs.WalkLaws.{remembered_take, is_table}
 use Rattle.layout.specs.Laid.{laid_states, given_code, row}

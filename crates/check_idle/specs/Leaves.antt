@@ -8,14 +8,14 @@ use Rattle.std.proofs.Math.Bool.{true, false, or-false}
 use Rattle.std.specs.Int.Bits.{bit_and, bit_or}
 use Rattle.std.proofs.lemmas.Nat.{and_le_l, or_lt}
 use Rattle.meaning.specs.Rows.{some, every}
-use Rattle.meaning.specs.Laws.Rows.{and_l, and_r, and_both, or_l, or_r, or_cases, same_test, some_yes, some_intro, every_yes, every_intro}
-use Rattle.meaning.specs.Laws.Bits.{or_bit, and_bit, no_bit, other_bit, same_bits}
+use Rattle.meaning.proofs.Laws.Rows.{and_l, and_r, and_both, or_l, or_r, or_cases, same_test, some_yes, some_intro, every_yes, every_intro}
+use Rattle.meaning.proofs.Laws.Bits.{or_bit, and_bit, no_bit, other_bit, same_bits}
 use Rattle.meaning.specs.Tables.{Tables, most_depth, most_moves, literal_places, state_count, move_count, super_state, source, literal}
 use Rattle.meaning.specs.Hierarchy.{up, at_or_above, is_leaf, timer_runs}
-use Rattle.meaning.specs.Laws.Hierarchy.{up_add}
+use Rattle.meaning.proofs.Laws.Hierarchy.{up_add}
 use Rattle.meaning.specs.Literals.{kind_of, wanted, input_on}
 use Rattle.meaning.specs.Needs.{needed_by}
-use Rattle.meaning.specs.Laws.Needs.{size_as, timer_named, names_timer, stands_by, stands_in_lem}
+use Rattle.meaning.proofs.Laws.Needs.{size_as, timer_named, names_timer, stands_by, stands_in_lem}
 use Rattle.meaning.specs.Check.{initial_passes, runs_below}
 use Rattle.meaning.specs.Rules.{MoveRule}
 use Rattle.meaning.specs.declared.Kind.{Kind}

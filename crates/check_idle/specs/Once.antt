@@ -2,7 +2,7 @@
 use Rattle.std.specs.Prelude.{◌≡◌, List, ℕ, suc, ◌/◌, ◌<◌, ◌≤◌, length, get_or, ℤ}
 use Rattle.std.proofs.Common.{sym, ◌∙◌, arith}
 use Rattle.meaning.specs.Once.{Once, OnceSeen, Words64}
-use Rattle.meaning.specs.Laws.Bits.{same_bits}
+use Rattle.meaning.proofs.Laws.Bits.{same_bits}
 use Rattle.meaning.specs.Tables.{Tables, state_count, source}
 use Rattle.meaning.specs.Check.{idle_passes}
 use Rattle.check_needs.specs.Words.{need_words, WordsAt}

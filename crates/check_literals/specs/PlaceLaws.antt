@@ -7,8 +7,8 @@ use Rattle.std.proofs.Math.Bool.{true, false, not, and-false, or-false}
 use Rattle.std.proofs.Math.Dec.{eqb}
 use borrow.Author.Tests.{eq-eqb, ne_eqb, eqb-true, eqb-false, le-leb, lt-leb, not-true}
 use Rattle.meaning.specs.Rows.{every}
-use Rattle.meaning.specs.Laws.Rows.{which, same_test, and_l, and_r, and_both, or_cases, or_l, or_r, false_not, false_by, not_both, some_no, some_none, some_more, every_yes, every_intro}
-use Rattle.meaning.specs.Laws.Needs.{size_as, input_sized, timer_sized, stands_in, stands_by, stands_in_lem}
+use Rattle.meaning.proofs.Laws.Rows.{which, same_test, and_l, and_r, and_both, or_cases, or_l, or_r, false_not, false_by, not_both, some_no, some_none, some_more, every_yes, every_intro}
+use Rattle.meaning.proofs.Laws.Needs.{size_as, input_sized, timer_sized, stands_in, stands_by, stands_in_lem}
 use Rattle.meaning.specs.Tables.{Tables, timer_count, literal}
 use Rattle.meaning.specs.Literals.{timer_offset, kind_of, wanted, input_on}
 use Rattle.meaning.specs.Needs.{Things, named, named_at, wants, needed_by}

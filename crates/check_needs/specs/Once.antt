@@ -4,7 +4,7 @@ use Rattle.std.proofs.Common.{sym, ◌∙◌, arith}
 use Rattle.std.proofs.Math.Decide.{dec_le}
 use Rattle.std.specs.Int.Bits.{bit_or}
 use Rattle.meaning.specs.Once.{Once}
-use Rattle.meaning.specs.Laws.Once.{is_once}
+use Rattle.meaning.proofs.Laws.Once.{is_once}
 use Rattle.meaning.specs.declared.Kind.{Kind}
 use Rattle.check_needs.specs.declared.ThingWords.{ThingWords}
 use Rattle.check_needs.specs.declared.Needs.{Needs}

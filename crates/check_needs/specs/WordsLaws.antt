@@ -10,9 +10,9 @@ use Rattle.std.specs.Int.Bits.{bit_and}
 use Rattle.std.proofs.lemmas.Nat.{and_le_l, and_le_r}
 use borrow.Author.Tests.{eq-eqb, eqb-true, ne_eqb, not-true, not-false, leb-true, le-leb}
 use Rattle.meaning.specs.Rows.{least, some, most64}
-use Rattle.meaning.specs.Laws.Rows.{which, same_test, and_l, and_r, and_both, false_by, false_not, not_both, some_yes, some_intro, least_to, least_before, least_passes}
-use Rattle.meaning.specs.Laws.Bits.{or_bit, and_bit, no_bit, other_bit, same_bits}
-use Rattle.meaning.specs.Laws.Needs.{inputs_known, timers_known, Fits, holds_fits, fits_holds}
+use Rattle.meaning.proofs.Laws.Rows.{which, same_test, and_l, and_r, and_both, false_by, false_not, not_both, some_yes, some_intro, least_to, least_before, least_passes}
+use Rattle.meaning.proofs.Laws.Bits.{or_bit, and_bit, no_bit, other_bit, same_bits}
+use Rattle.meaning.proofs.Laws.Needs.{inputs_known, timers_known, Fits, holds_fits, fits_holds}
 use Rattle.meaning.specs.Once.{Words64}
 use Rattle.meaning.specs.Tables.{Tables, literal_places, literal}
 use Rattle.meaning.specs.Literals.{between, kind_of, input_on, literals_hold}

@@ -3,7 +3,7 @@ use Rattle.std.specs.Prelude.{◌≡◌, ℕ, suc, ◌/◌, ◌<◌, Bool, true,
 use Rattle.std.proofs.Common.{sym, ◌∙◌, inl, inr, arith, zero-add, eq-eqb, ne_eqb, lt-ltb}
 use Rattle.std.proofs.Math.Bool.{and-false}
 use Rattle.meaning.specs.Rows.{least, some}
-use Rattle.meaning.specs.Laws.Rows.{which, some_yes, some_no, least_none, least_before, not_both}
+use Rattle.meaning.proofs.Laws.Rows.{which, some_yes, some_no, least_none, least_before, not_both}
 use Rattle.meaning.specs.Once.{Words64}
 use Rattle.meaning.specs.Tables.{Tables, source}
 use Rattle.meaning.specs.Hierarchy.{at_or_above}

@@ -2,7 +2,7 @@
 use Rattle.std.specs.Prelude.{◌≡◌, List, ℕ, ◌<◌, ◌≤◌, length, get_or}
 use Rattle.std.proofs.Common.{sym, ◌∙◌}
 use Rattle.meaning.specs.Once.{OnceSeen, Words64}
-use Rattle.meaning.specs.Laws.Bits.{same_bits}
+use Rattle.meaning.proofs.Laws.Bits.{same_bits}
 use Rattle.meaning.specs.Tables.{Tables, state_count}
 use Rattle.check_pairing.specs.Words.{Tree, Clear, PairedWords}
 

@@ -3,11 +3,11 @@ use Rattle.std.specs.Prelude.{◌≡◌, refl, ℕ, zero, suc, ◌+◌, ◌-◌,
 use Rattle.std.proofs.Common.{sym, ap, ◌∙◌, inl, inr, arith, length-set, get_or-set_same, get_or-set_other, eq-eqb, ne_eqb, eqb-true}
 use Rattle.std.proofs.Math.Decide.{ℕ_discrete, dec_le}
 use Rattle.std.specs.Int.Bits.{bit_or}
-use Rattle.meaning.specs.Laws.Rows.{which, same_test, and_l, and_r, and_both, or_cases, or_l, or_r, some_yes, some_intro}
-use Rattle.meaning.specs.Laws.Bits.{or_bit}
+use Rattle.meaning.proofs.Laws.Rows.{which, same_test, and_l, and_r, and_both, or_cases, or_l, or_r, some_yes, some_intro}
+use Rattle.meaning.proofs.Laws.Bits.{or_bit}
 use Rattle.meaning.specs.Tables.{Tables, state_count, super_state, pair_count, pair_number, pair_state}
 use Rattle.meaning.specs.Hierarchy.{up, at_or_above, paired}
-use Rattle.meaning.specs.Laws.Hierarchy.{at_or_above_tells, up_super, up_add}
+use Rattle.meaning.proofs.Laws.Hierarchy.{at_or_above_tells, up_super, up_add}
 use Rattle.meaning.specs.Literals.{input_on}
 use Rattle.meaning.specs.Rules.{AtOrAbove}
 use Rattle.check_pairing.specs.Words.{Tree, row_at, own, Own, Upto}

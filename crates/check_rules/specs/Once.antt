@@ -2,7 +2,7 @@
 use Rattle.std.specs.Prelude.{◌≡◌, refl, List, [], ℕ, ℤ}
 use Rattle.std.proofs.Common.{sym, ◌∙◌}
 use Rattle.meaning.specs.Once.{Once}
-use Rattle.meaning.specs.Laws.Once.{states_once, tables_with}
+use Rattle.meaning.proofs.Laws.Once.{states_once, tables_with}
 use Rattle.meaning.specs.Tables.{Tables}
 use Rattle.meaning.specs.Check.{preset_passes, pair_passes, move_passes}
 use Rattle.tables.specs.Given.{tables_of}

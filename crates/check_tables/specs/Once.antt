@@ -1,7 +1,7 @@
 -- No second answer of the check of the tables.
 use Rattle.std.specs.Prelude.{List, ℕ, ℤ}
 use Rattle.meaning.specs.Once.{Once}
-use Rattle.meaning.specs.Laws.Once.{is_once}
+use Rattle.meaning.proofs.Laws.Once.{is_once}
 use Rattle.meaning.specs.Check.{verdict}
 use Rattle.tables.specs.Given.{tables_of}
 use Rattle.tables.specs.declared.Chart.{Chart}

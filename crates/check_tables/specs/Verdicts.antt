@@ -7,7 +7,7 @@ use Rattle.std.proofs.Math.Bool.{not}
 use Rattle.std.proofs.lemmas.Bool.{false≢true}
 use borrow.Author.Tests.{eqb-true, eq-eqb, ne_eqb, not-false}
 use Rattle.meaning.specs.Rows.{least}
-use Rattle.meaning.specs.Laws.Rows.{which, least_at, least_none, least_before, true_not, false_not}
+use Rattle.meaning.proofs.Laws.Rows.{which, least_at, least_none, least_before, true_not, false_not}
 use Rattle.meaning.specs.Tables.{Tables, state_count, move_count, timer_count, pair_count}
 use Rattle.meaning.specs.Check.{Check, first_failing, verdict_of, size_passes, hierarchy_passes, initial_passes, preset_passes, pair_passes, move_passes, literal_passes, idle_passes, overlap_passes, flip_flop_passes, checks, verdict}
 use Rattle.meaning.specs.declared.Refusal.TheVariants as R

@@ -4,10 +4,10 @@ use Rattle.std.proofs.Common.{sym, ap, ◌∙◌, inl, inr, arith}
 use Rattle.std.proofs.Math.Decide.{dec_le, ℕ_discrete}
 use Rattle.std.proofs.Math.Bool.{or-false}
 use Rattle.std.proofs.Math.ListN.{get_or-eq_default}
-use Rattle.meaning.specs.Laws.Rows.{which, or_l, or_r}
+use Rattle.meaning.proofs.Laws.Rows.{which, or_l, or_r}
 use Rattle.meaning.specs.Tables.{Tables, state_count, super_state}
 use Rattle.meaning.specs.Hierarchy.{up, at_or_above}
-use Rattle.meaning.specs.Laws.Hierarchy.{at_or_above_tells}
+use Rattle.meaning.proofs.Laws.Hierarchy.{at_or_above_tells}
 use Rattle.meaning.specs.Rules.{HierarchyRule}
 
 abbrev pub Falling : Tables → Type 0

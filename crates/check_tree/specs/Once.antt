@@ -2,7 +2,7 @@
 use Rattle.std.specs.Prelude.{◌≡◌, ◌||◌, List, ℕ}
 use Rattle.std.proofs.Common.{sym, ◌∙◌}
 use Rattle.meaning.specs.Once.{Once}
-use Rattle.meaning.specs.Laws.Once.{states_once}
+use Rattle.meaning.proofs.Laws.Once.{states_once}
 use Rattle.meaning.specs.Tables.{Tables}
 use Rattle.meaning.specs.Hierarchy.{at_or_above}
 use Rattle.meaning.specs.Check.{hierarchy_passes, initial_passes}

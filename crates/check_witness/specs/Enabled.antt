@@ -9,10 +9,10 @@ use Prim.Native.Nat.{ℕ, zero, suc, ◌+◌, ◌-◌, ◌≤◌, ◌<◌, max}
 use native.Mathlib.Omega.{arith}
 use Rattle.std.proofs.Math.Decide.{dec_le}
 use borrow.Author.Tests.{not-true}
-use Rattle.meaning.specs.Laws.Rows.{and_both, and_r, or_l, or_r, or_cases, least_passes}
-use Rattle.meaning.specs.Laws.Hierarchy.{at_or_above_tells, up_add}
-use Rattle.meaning.specs.Laws.Needs.{Fits, holds_fits, fits_holds, inputs_known, timers_known, clash_back}
-use Rattle.meaning.specs.Laws.Overlap.{both_hold, overlaps_tells, place_known}
+use Rattle.meaning.proofs.Laws.Rows.{and_both, and_r, or_l, or_r, or_cases, least_passes}
+use Rattle.meaning.proofs.Laws.Hierarchy.{at_or_above_tells, up_add}
+use Rattle.meaning.proofs.Laws.Needs.{Fits, holds_fits, fits_holds, inputs_known, timers_known, clash_back}
+use Rattle.meaning.proofs.Laws.Overlap.{both_hold, overlaps_tells, place_known}
 use Rattle.meaning.specs.Tables.{Tables, literal_places, state_count, move_count, super_state, source}
 use Rattle.meaning.specs.Hierarchy.{up, at_or_above}
 use Rattle.meaning.specs.Literals.{Setting, input_on}

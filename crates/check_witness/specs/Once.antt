@@ -3,7 +3,7 @@ use Rattle.std.specs.Prelude.{◌≡◌, Bool, ◌⊎◌, ◌≢◌, ℕ, suc, �
 use Rattle.std.proofs.Common.{sym, ap, ◌∙◌, inl, inr, arith}
 use Rattle.std.proofs.Math.Decide.{ℕ_discrete}
 use Rattle.meaning.specs.Once.{Once}
-use Rattle.meaning.specs.Laws.Bits.{same_bits}
+use Rattle.meaning.proofs.Laws.Bits.{same_bits}
 use Rattle.meaning.specs.Refusals.{number_of, place_of}
 use Rattle.meaning.specs.Tables.{Tables}
 use Rattle.meaning.specs.Check.{verdict}

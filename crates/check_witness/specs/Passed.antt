@@ -5,15 +5,15 @@ use mathlib.Core.List.{List, zip_with}
 use Rattle.std.proofs.lemmas.Nat.{or_lt}
 use Rattle.std.proofs.Math.Decide.{dec_le}
 use Rattle.meaning.specs.Rows.{least}
-use Rattle.meaning.specs.Laws.Rows.{least_before, not_both}
+use Rattle.meaning.proofs.Laws.Rows.{least_before, not_both}
 use Rattle.meaning.specs.Refusals.{number_of, place_of}
 use Rattle.meaning.specs.Tables.{Tables, state_count, move_count, source}
 use Rattle.check_idle.specs.Leaves.{source_known}
 use Rattle.meaning.specs.Rules.{SizeRule, HierarchyRule, OverlapRule}
 use Rattle.meaning.specs.Check.{checks, verdict, overlaps, earlier}
-use Rattle.meaning.specs.Laws.Rules.{literal_tells}
-use Rattle.meaning.specs.Laws.Overlap.{overlaps_tells}
-use Rattle.meaning.specs.Laws.Verdict.{GivenBy, ruled, refused_exactly, accepted_exactly}
+use Rattle.meaning.proofs.Laws.Rules.{literal_tells}
+use Rattle.meaning.proofs.Laws.Overlap.{overlaps_tells}
+use Rattle.meaning.proofs.Laws.Verdict.{GivenBy, ruled, refused_exactly, accepted_exactly}
 use Rattle.meaning.specs.declared.Refusal.{Refusal}
 use Rattle.meaning.specs.declared.Refusal.TheVariants as R
 use Rattle.meaning.specs.declared.Verdict.{Verdict}

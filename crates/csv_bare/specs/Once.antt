@@ -1,7 +1,7 @@
 -- No second answer of any function of this crate.
 use Rattle.std.specs.Prelude.{◌≡◌, List, ℕ}
 use Rattle.meaning.specs.Once.{Once}
-use Rattle.meaning.specs.Laws.Once.{is_once}
+use Rattle.meaning.proofs.Laws.Once.{is_once}
 use Rattle.csv_bare.specs.Bare.{bare_from, end_from}
 
 pub bare_once : (most below : ℕ) (bytes : List ℕ) (from : ℕ) → Once (λ u. u ≡ bare_from most below bytes from)

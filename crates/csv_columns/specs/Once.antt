@@ -2,7 +2,7 @@
 use Rattle.std.specs.Prelude.{◌≡◌, List, map, ℕ, ◌*◌, min, ℤ}
 use Rattle.std.proofs.lemmas.List.Edits.{sets}
 use Rattle.meaning.specs.Once.{Once}
-use Rattle.meaning.specs.Laws.Once.{is_once}
+use Rattle.meaning.proofs.Laws.Once.{is_once}
 use Rattle.meaning.specs.Tables.{move_row}
 use Rattle.csv_value.specs.Decimals.{signed_of}
 use Rattle.csv_columns.specs.Low.{low16, low32}

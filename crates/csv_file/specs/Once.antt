@@ -1,7 +1,7 @@
 -- No second answer of the reader of a whole file.
 use Rattle.std.specs.Prelude.{List, ℕ}
 use Rattle.meaning.specs.Once.{Once}
-use Rattle.meaning.specs.Laws.Once.{two}
+use Rattle.meaning.proofs.Laws.Once.{two}
 use Rattle.csv_file.specs.declared.File.{File}
 use Rattle.csv_file.specs.declared.FileRead.{FileRead}
 use Rattle.csv_file.specs.Reads.{RecordsRead, records_read_same}

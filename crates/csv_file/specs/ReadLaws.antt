@@ -10,7 +10,7 @@ use Rattle.std.proofs.lemmas.List.Edits.{sets-eq}
 use Rattle.std.proofs.Math.Dec.{leb}
 use borrow.Author.Tests.{le-leb, lt-leb, eqb-true}
 use Rattle.meaning.specs.Programs.{all}
-use Rattle.meaning.specs.Laws.Rows.{which, and_l}
+use Rattle.meaning.proofs.Laws.Rows.{which, and_l}
 use Rattle.meaning.specs.Check.{Check, first_failing, verdict_of}
 use Rattle.meaning.specs.Calls.{overlaid}
 use Rattle.meaning.specs.declared.Refusal.{Refusal}

@@ -11,7 +11,7 @@ use Rattle.std.proofs.Math.Seq.{length-sets}
 use Rattle.std.proofs.Math.Dec.{ltb}
 use Rattle.std.proofs.Math.Decide.{dec_le}
 use borrow.Author.Tests.{lt-ltb, lt-leb, ne_eqb, ltb-true, ltb-false, leb-true, eqb-true}
-use Rattle.meaning.specs.Laws.Rows.{which, and_l, and_r}
+use Rattle.meaning.proofs.Laws.Rows.{which, and_l, and_r}
 use Rattle.csv_field.specs.declared.FieldPhase.{FieldPhase}
 use Rattle.csv_field.specs.declared.FieldPhase.TheVariants.{Minus, Number}
 use Rattle.csv_field.specs.Field.{most64, phase_after, field_begun}

@@ -10,13 +10,13 @@ use Rattle.std.proofs.Math.ListN.{length}
 use borrow.Author.Tests.{le-leb, leb-true}
 use Rattle.meaning.specs.Programs.{all}
 use Rattle.meaning.specs.Literals.{between}
-use Rattle.meaning.specs.Laws.Rows.{and_l, and_r, and_both, false_by}
-use Rattle.meaning.specs.Laws.Tests.{all_append}
+use Rattle.meaning.proofs.Laws.Rows.{and_l, and_r, and_both, false_by}
+use Rattle.meaning.proofs.Laws.Tests.{all_append}
 use Rattle.format.specs.Text.{digits, decimal}
 use Rattle.format.specs.Records.{same, spelt, decimal_within}
-use Rattle.format.specs.Laws.Decimals.{digit, huge, decimal_small, decimal_more, decimal_digits, no_leading_zero}
-use Rattle.format.specs.Laws.Lines.{same_yes, same_refl}
-use Rattle.format.specs.Laws.Unique.{tail_same}
+use Rattle.format.proofs.Laws.Decimals.{digit, huge, decimal_small, decimal_more, decimal_digits, no_leading_zero}
+use Rattle.format.proofs.Laws.Lines.{same_yes, same_refl}
+use Rattle.format.proofs.Laws.Unique.{tail_same}
 
 -- no number but 0 begins with 0
 decimal_zero : (n : ℕ) (g : List ℕ) → n < huge → decimal n ≡ 48 ∷ g → g ≡ []

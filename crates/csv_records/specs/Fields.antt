@@ -11,10 +11,10 @@ use Rattle.std.proofs.lemmas.Bool.{false≢true}
 use mathlib.Core.List.{List, [], ◌∷◌}
 use borrow.Author.Tests.{le-leb, lt-leb, leb-true, eq-eqb, ne_eqb}
 use Rattle.meaning.specs.Literals.{between}
-use Rattle.meaning.specs.Laws.Rows.{which, and_l, and_r}
+use Rattle.meaning.proofs.Laws.Rows.{which, and_l, and_r}
 use Rattle.format.specs.Text.{decimal}
 use Rattle.format.specs.Records.{same, spelt, decimal_within, negative, field_value, content}
-use Rattle.format.specs.Laws.Decimals.{huge, digit}
+use Rattle.format.proofs.Laws.Decimals.{huge, digit}
 use Rattle.csv_field.specs.declared.FieldPhase.{FieldPhase}
 use Rattle.csv_field.specs.declared.FieldPhase.TheVariants.{Fresh, Empty, Quote, Minus, Number, Closed, Return, Bad}
 use Rattle.csv_value.specs.declared.Decimal.{Decimal}

@@ -8,7 +8,7 @@ use Rattle.std.proofs.lemmas.List.Edits.{sets}
 use Rattle.std.proofs.Math.Dec.{eqb-suc-zero}
 use Rattle.meaning.specs.Programs.{all}
 use Rattle.meaning.specs.Rows.{least}
-use Rattle.meaning.specs.Laws.Rows.{least_same}
+use Rattle.meaning.proofs.Laws.Rows.{least_same}
 use Rattle.meaning.specs.Tables.{state_row, move_row, pair_row}
 use Rattle.meaning.specs.Check.{Check, first_failing}
 use Rattle.format.specs.Records.{Column, records, record_passes, numbers}

@@ -13,9 +13,9 @@ use Rattle.std.proofs.Math.Dec.{eqb-suc-suc, eqb-suc-zero, eqb-zero-suc}
 use borrow.Author.Tests.{lt-ltb, lt-leb, eq-eqb, ne_eqb}
 use Rattle.meaning.specs.Programs.{all}
 use Rattle.meaning.specs.Literals.{between}
-use Rattle.meaning.specs.Laws.Rows.{which, and_l, and_r}
+use Rattle.meaning.proofs.Laws.Rows.{which, and_l, and_r}
 use Rattle.format.specs.Records.{front, pieces, without_cr}
-use Rattle.format.specs.Laws.Lines.{one_line}
+use Rattle.format.proofs.Laws.Lines.{one_line}
 use Rattle.csv_field.specs.declared.FieldPhase.{FieldPhase}
 use Rattle.csv_field.specs.declared.FieldPhase.TheVariants.{Fresh, Empty, Quote, Minus, Number, Closed, Return, Bad}
 use Rattle.csv_value.specs.declared.Decimal.{Decimal}

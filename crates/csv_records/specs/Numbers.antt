@@ -6,11 +6,11 @@ use Rattle.std.proofs.lemmas.Bool.{false≢true}
 use mathlib.Core.List.{List, [], ◌∷◌, map, flat_map}
 use Rattle.meaning.specs.Programs.{all}
 use Rattle.meaning.specs.Literals.{between}
-use Rattle.meaning.specs.Laws.Rows.{which, and_l, and_r, and_both}
+use Rattle.meaning.proofs.Laws.Rows.{which, and_l, and_r, and_both}
 use Rattle.format.specs.Text.{decimal}
 use Rattle.format.specs.Records.{Column, fields, same, spelt, decimal_within, negative, decimal_fits, field_value, record_passes}
-use Rattle.format.specs.Laws.Decode as decode
-use Rattle.format.specs.Laws.Lines.{all_append}
+use Rattle.format.proofs.Laws.Decode as decode
+use Rattle.format.proofs.Laws.Lines.{all_append}
 use Rattle.csv_field.specs.Field.{most64}
 use Rattle.csv_value.specs.Decimals.{signed_of}
 use Rattle.csv_records.specs.Fields.{stored_number, fits_in}

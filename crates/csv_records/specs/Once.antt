@@ -2,7 +2,7 @@
 use Rattle.std.proofs.Common.{sym, ◌∙◌}
 use Rattle.std.specs.Prelude.{List, ℕ}
 use Rattle.meaning.specs.Once.{Once}
-use Rattle.meaning.specs.Laws.Once.{two}
+use Rattle.meaning.proofs.Laws.Once.{two}
 use Rattle.csv_cursor.specs.declared.Reader.{Reader}
 use Rattle.csv_records.specs.declared.RecordsAnswer.{RecordsAnswer}
 use Rattle.csv_records.specs.Automaton.{Fed, Finished}

@@ -14,13 +14,13 @@ use borrow.Author.Tests.{leb-true, eq-eqb, ne_eqb, ltb-false, ltb-true, eqb-true
 use Rattle.meaning.specs.Programs.{all}
 use Rattle.meaning.specs.Literals.{between}
 use Rattle.meaning.specs.Rows.{least}
-use Rattle.meaning.specs.Laws.Rows.{which, and_l, and_r, least_at, least_none, true_not, false_not, false_by}
+use Rattle.meaning.proofs.Laws.Rows.{which, and_l, and_r, least_at, least_none, true_not, false_not, false_by}
 use Rattle.meaning.specs.Check.{Check, first_failing}
 use Rattle.meaning.specs.declared.Refusal.TheVariants as R
 use Rattle.format.specs.Records.{Column, pieces, records, content, fields, same, spelt, decimal_within, negative, decimal_fits, field_value, record_passes, numbers}
 use Rattle.format.specs.Text.{decimal}
 use Rattle.format.specs.Printed.{record_at}
-use Rattle.format.specs.Laws.Decimals.{huge}
+use Rattle.format.proofs.Laws.Decimals.{huge}
 use Rattle.csv_field.specs.declared.FieldPhase.{FieldPhase}
 use Rattle.csv_field.specs.declared.FieldPhase.TheVariants.{Fresh, Empty}
 use Rattle.csv_value.specs.declared.Decimal.{Decimal}

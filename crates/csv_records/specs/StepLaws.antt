@@ -3,7 +3,7 @@ use Rattle.std.specs.Prelude.{◌≡◌, refl, ◌⊎◌, ℕ, suc, ◌≤◌, t
 use Rattle.std.proofs.Common.{sym, ◌∙◌, inl, inr, add-one, arith, ltb-false}
 use Rattle.std.proofs.lemmas.List.Edits.{sets}
 use Rattle.std.proofs.Math.Seq.{set_out}
-use Rattle.meaning.specs.Laws.Rows.{which, and_r, sets_out}
+use Rattle.meaning.proofs.Laws.Rows.{which, and_r, sets_out}
 use Rattle.csv_value.specs.declared.Decimal.{Decimal}
 use Rattle.csv_value.specs.declared.Decimal.TheVariants.{Is, IsNot}
 use Rattle.csv_field.specs.Field.{most64}

@@ -9,10 +9,10 @@ use Rattle.std.proofs.lemmas.Bool.{false≢true, not-true}
 use mathlib.Core.List.{List, [], ◌∷◌, ◌++◌, flat_map, append_assoc, append-nil}
 use Rattle.std.proofs.Math.ListN.{length}
 use Rattle.meaning.specs.Programs.{all}
-use Rattle.meaning.specs.Laws.Rows.{which, and_l, and_r}
+use Rattle.meaning.proofs.Laws.Rows.{which, and_l, and_r}
 use Rattle.meaning.specs.declared.Refusal.TheVariants as R
 use Rattle.format.specs.Records.{front, pieces, without_cr, ended_records}
-use Rattle.format.specs.Laws.Lines.{one_line}
+use Rattle.format.proofs.Laws.Lines.{one_line}
 use Rattle.csv_field.specs.declared.FieldPhase.TheVariants.{Fresh, Bad}
 use Rattle.csv_value.specs.declared.Decimal.{Decimal}
 use Rattle.csv_value.specs.declared.Decimal.TheVariants.{Is, IsNot}

@@ -1,7 +1,7 @@
 -- No second answer of any function of this crate.
 use Rattle.std.specs.Prelude.{◌≡◌, List, ℕ}
 use Rattle.meaning.specs.Once.{Once}
-use Rattle.meaning.specs.Laws.Once.{is_once}
+use Rattle.meaning.proofs.Laws.Once.{is_once}
 use Rattle.csv_tables.specs.declared.Answers.{Answers}
 use Rattle.csv_tables.specs.Told.{field_verdict, Counted, chart_from, one_count}
 

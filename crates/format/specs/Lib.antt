@@ -12,5 +12,3 @@ pub mod Lamp
 pub mod NeedsCases
 -- the automata that the reader's code follows: proved to do what the definitions say
 pub mod Automata
--- laws
-pub mod Laws

@@ -1,7 +1,7 @@
 -- No second answer of any function of this crate.
 use Rattle.std.specs.Prelude.{◌≡◌, ℕ}
 use Rattle.meaning.specs.Once.{Once}
-use Rattle.meaning.specs.Laws.Once.{is_once}
+use Rattle.meaning.proofs.Laws.Once.{is_once}
 use Rattle.format.specs.declared.Phase.{Phase}
 use Rattle.format.specs.declared.Reading.{Reading}
 use Rattle.format.specs.Automata.Phases as Phases

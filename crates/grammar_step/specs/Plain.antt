@@ -1,7 +1,7 @@
 -- Words that name no block: what they do follows from the operator number alone.
 use Rattle.std.specs.Prelude.{◌≡◌, refl, ℕ, ◌-◌, ◌/◌, ◌%◌, ◌≤◌, true}
 use Rattle.std.proofs.Common.{sym, ap, ◌∙◌, arith, le-leb}
-use Rattle.meaning.specs.Laws.Rows.{or_l}
+use Rattle.meaning.proofs.Laws.Rows.{or_l}
 use Rattle.meaning.specs.Programs.{testable, constant, flip_flop_fits, output_fits}
 use Rattle.meaning.specs.declared.Operand.{Operand}
 use Rattle.meaning.specs.declared.Operand.TheVariants.{Mx, Ix}
@@ -9,8 +9,8 @@ use Rattle.meaning.specs.declared.Operator.{Operator}
 use Rattle.meaning.specs.declared.Operator.TheVariants.{Ld, Ldn, And, Andn, St, S, R}
 use Rattle.format.specs.declared.Reading.{Reading}
 use Rattle.format.specs.Decode.{parameter_fits, operator_fits, operand_of, kept, unpacked, decoded}
-use Rattle.format.specs.Laws.Decode.{in_range}
-use Rattle.format.specs.Laws.Operands.{operand_mx, operand_ix}
+use Rattle.format.proofs.Laws.Decode.{in_range}
+use Rattle.format.proofs.Laws.Operands.{operand_mx, operand_ix}
 use Rattle.format.specs.Automata.Phases.{block, load, also, store, phase_put, phase_step, step_word}
 
 -- a word by its two numbers

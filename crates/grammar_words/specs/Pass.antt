@@ -8,7 +8,7 @@ use Rattle.format.specs.Words.{words, AcceptedWords}
 use Rattle.format.specs.Places.{WordPlace}
 use Rattle.format.specs.Decode.{decoded}
 use Rattle.format.specs.Automata.Phases.{begin, begin_words, alive, may_end, step_word, after_words}
-use Rattle.format.specs.Laws.Words.{accepted_words, words_step, refused_word, unfinished_words, words_same, place_same, program_timers}
+use Rattle.format.proofs.Laws.Words.{accepted_words, words_step, refused_word, unfinished_words, words_same, place_same, program_timers}
 use Rattle.grammar_words.specs.declared.WordsEnd.{WordsEnd}
 use Rattle.grammar_words.specs.declared.WordsEnd.TheVariants.{Accepted, Refused}
 

@@ -1,7 +1,7 @@
 -- No second answer of any function of this crate.
 use Rattle.std.specs.Prelude.{◌≡◌, Bool, ◌&&◌, List, ℕ}
 use Rattle.meaning.specs.Once.{Once}
-use Rattle.meaning.specs.Laws.Once.{is_once}
+use Rattle.meaning.proofs.Laws.Once.{is_once}
 use Rattle.meaning.specs.declared.Block.{Block}
 use Rattle.il_values.specs.Value.{with_bit}
 use Rattle.il_block.specs.Called.{called_with, in_its_time}

@@ -1,7 +1,7 @@
 -- No second answer of which block a word calls.
 use Rattle.std.specs.Prelude.{◌≡◌, ℕ}
 use Rattle.meaning.specs.Once.{Once}
-use Rattle.meaning.specs.Laws.Once.{is_once}
+use Rattle.meaning.proofs.Laws.Once.{is_once}
 use Rattle.format.specs.Decode.{decoded}
 use Rattle.il_called.specs.Due.{due}
 

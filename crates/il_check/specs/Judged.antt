@@ -2,7 +2,7 @@
 use Rattle.std.specs.Prelude.{◌≡◌, ◌↔◌, ℕ, ◌≤◌, ◌<◌, Bool, true, false, cond, List, length, eqb}
 use Rattle.std.proofs.Common.{sym, ap, ◌∙◌, arith, le-leb}
 use Rattle.std.proofs.lemmas.Bool.{lt-leb}
-use Rattle.meaning.specs.Laws.Rows.{not_both, same_test}
+use Rattle.meaning.proofs.Laws.Rows.{not_both, same_test}
 use Rattle.meaning.specs.Tables.{most_scan_step}
 use Rattle.meaning.specs.Literals.{between}
 use Rattle.meaning.specs.Programs.{Program}
@@ -11,7 +11,7 @@ use Rattle.meaning.specs.declared.Verdict.TheVariants as G
 use Rattle.meaning.specs.declared.Refusal.TheVariants.{Size, Text, State, Scans}
 use Rattle.format.specs.Words.{AcceptedWords}
 use Rattle.format.specs.Places.{WordPlace}
-use Rattle.format.specs.Laws.Words.{words_same, place_same}
+use Rattle.format.proofs.Laws.Words.{words_same, place_same}
 use Rattle.il_scan.specs.Scans.{Fitting}
 use Rattle.il_sizes.specs.Bytes.{bytes_named}
 use Rattle.il_times.specs.Validity.{AreBits}

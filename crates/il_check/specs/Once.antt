@@ -1,7 +1,7 @@
 -- No second answer of either public function of this crate.
 use Rattle.std.specs.Prelude.{◌≡◌, Bool, List, ℕ}
 use Rattle.meaning.specs.Once.{Once}
-use Rattle.meaning.specs.Laws.Once.{is_once}
+use Rattle.meaning.proofs.Laws.Once.{is_once}
 use Rattle.meaning.specs.declared.Verdict.{Verdict}
 use Rattle.il_check.specs.Judged.{JudgedBy, judged_same, is_accepted}
 

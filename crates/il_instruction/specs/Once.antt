@@ -1,7 +1,7 @@
 -- No second answer of the run of a word.
 use Rattle.std.specs.Prelude.{◌≡◌, List, ℕ}
 use Rattle.meaning.specs.Once.{Once}
-use Rattle.meaning.specs.Laws.Once.{both_once}
+use Rattle.meaning.proofs.Laws.Once.{both_once}
 use Rattle.format.specs.Decode.{decoded}
 use Rattle.il_instruction.specs.declared.Registers.{Registers}
 use Rattle.il_instruction.specs.Effect.{running, flip_flops_after}

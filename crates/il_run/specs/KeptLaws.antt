@@ -4,11 +4,11 @@ use Rattle.std.proofs.Common.{ap, ◌∙◌, arith, length-set, get_or-set_same,
 use Rattle.std.proofs.Math.Decide.{ℕ_discrete, dec_le}
 use Rattle.std.proofs.lemmas.Bool.{false≢true}
 use Rattle.std.proofs.Math.ListN.{get_or-eq_default}
-use Rattle.meaning.specs.Laws.Rows.{and_l, and_r, and_both, or_l, bit_small}
-use Rattle.meaning.specs.Laws.Stores.{AllBits, set_bits}
+use Rattle.meaning.proofs.Laws.Rows.{and_l, and_r, and_both, or_l, bit_small}
+use Rattle.meaning.proofs.Laws.Stores.{AllBits, set_bits}
 use Rattle.meaning.specs.Programs.{Rung, TimerRung, Program, all, flip_flop_fits, output_fits, store_fits, rung_fits, program_fits}
 use Rattle.meaning.specs.Scan.{Controller, MidScan, ValidController, blank, block_at, block_changed, elapsed, ton, with_in, with_pt, with_flip_flops, with_block, with_outputs, with_result, stored_in, scan_begun}
-use Rattle.meaning.specs.Laws.Effects.{body_passes, store_done, stores_done, rung_done, rungs_done, with_time, timer_rung_done, timer_rungs_done, program_done}
+use Rattle.meaning.proofs.Laws.Effects.{body_passes, store_done, stores_done, rung_done, rungs_done, with_time, timer_rung_done, timer_rungs_done, program_done}
 use Rattle.meaning.specs.declared.Block.{Block}
 use Rattle.meaning.specs.declared.Operand.{Operand}
 use Rattle.meaning.specs.declared.Operand.TheVariants.{Mx, Ix, Qx, TimerQ, TimerIn, TimerPt, Timer, False, True}

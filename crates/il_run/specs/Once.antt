@@ -2,7 +2,7 @@
 use Rattle.std.specs.Prelude.{◌≡◌, Bool, List, ℕ, length}
 use Rattle.std.proofs.Common.{sym, ◌∙◌, ap}
 use Rattle.meaning.specs.Once.{Once}
-use Rattle.meaning.specs.Laws.Once.{three, four, is_once}
+use Rattle.meaning.proofs.Laws.Once.{three, four, is_once}
 use Rattle.meaning.specs.declared.Block.{Block}
 use Rattle.il_times.specs.Sizes.{rungs_in, no_rungs}
 use Rattle.il_run.specs.declared.ArrayScanned.{ArrayScanned}

@@ -7,7 +7,7 @@ use Rattle.std.proofs.Math.Bool.{true}
 use Rattle.std.proofs.lemmas.Bool.{false≢true, eqb-false}
 use Rattle.std.proofs.Math.ListN.{length}
 use Rattle.std.proofs.lemmas.List.Edits.{sets, sets-eq}
-use Rattle.meaning.specs.Laws.Rows.{and_l, and_r, and_both}
+use Rattle.meaning.proofs.Laws.Rows.{and_l, and_r, and_both}
 use Rattle.meaning.specs.Tables.{most_scan_step}
 use Rattle.meaning.specs.Literals.{between}
 use Rattle.meaning.specs.Programs.{TimerRung, Program, instructions}

@@ -5,7 +5,7 @@ use Rattle.meaning.specs.Literals.{input_on}
 use Rattle.meaning.specs.Machine.{word_of}
 use Rattle.meaning.specs.Programs.{Program, instructions, program_fits, carried}
 use Rattle.meaning.specs.Scan.{Controller, MidScan, ValidController, value_of, with_result, executed, executed_all, scan_begun, scanned, output_word, scanned_all, output_trace}
-use Rattle.meaning.specs.Laws.Execute.{program_executed}
+use Rattle.meaning.proofs.Laws.Execute.{program_executed}
 use Rattle.meaning.specs.declared.Operand.{Operand}
 use Rattle.meaning.specs.declared.Operand.TheVariants.{Mx, Ix, Qx, TimerQ, TimerIn, TimerPt, Timer, False, True}
 use Rattle.meaning.specs.declared.Operator.{Operator}

@@ -1,14 +1,14 @@
 -- What the calls that run a program answer, and that each has no second answer.
 use Rattle.std.specs.Prelude.{◌≡◌, ℕ, true, false, List, map, length}
 use Rattle.std.proofs.Common.{sym, ap, ap₂, ◌∙◌, arith}
-use Rattle.meaning.specs.Laws.Rows.{not_both}
+use Rattle.meaning.proofs.Laws.Rows.{not_both}
 use Rattle.meaning.specs.Tables.{Tables, most_scan_step}
 use Rattle.meaning.specs.Rules.{Rules}
 use Rattle.meaning.specs.Machine.{Seen}
 use Rattle.meaning.specs.History.{first_leaf, history_reading}
 use Rattle.meaning.specs.Written.{program}
 use Rattle.meaning.specs.Stands.{coded_leaf}
-use Rattle.meaning.specs.Laws.Programs.{program_fits_lem}
+use Rattle.meaning.proofs.Laws.Programs.{program_fits_lem}
 use Rattle.meaning.specs.Demands.{last_leaf}
 use Rattle.meaning.specs.Literals.{between}
 use Rattle.meaning.specs.Programs.{Program, instructions, program_fits}
@@ -17,8 +17,8 @@ use Rattle.meaning.specs.declared.Refusal.{Refusal}
 use Rattle.meaning.specs.declared.Refusal.TheVariants.{Size, Text, State, Scans}
 use Rattle.format.specs.Words.{words, AcceptedWords}
 use Rattle.format.specs.Places.{WordPlace}
-use Rattle.format.specs.Laws.Words.{words_same, place_same}
-use Rattle.format.specs.Laws.Bytes.{words_run}
+use Rattle.format.proofs.Laws.Words.{words_same, place_same}
+use Rattle.format.proofs.Laws.Bytes.{words_run}
 use Rattle.meaning.specs.declared.Ran.{Ran}
 use Rattle.meaning.specs.declared.Ran.TheVariants.{Done, Refused}
 use Rattle.il_run.specs.declared.Scanned.{Scanned}

@@ -1,11 +1,11 @@
 -- Of instructions the scan by words is the scan by instructions.
 use Rattle.std.specs.Prelude.{◌≡◌, refl, ℕ, true, List, [], ◌∷◌, map}
-use Rattle.meaning.specs.Laws.Rows.{and_l, and_r}
+use Rattle.meaning.proofs.Laws.Rows.{and_l, and_r}
 use Rattle.meaning.specs.Programs.{all}
 use Rattle.meaning.specs.declared.Operator.{Operator}
 use Rattle.format.specs.Words.{word}
 use Rattle.format.specs.Decode.{operator_fits}
-use Rattle.format.specs.Laws.Decode.{decode_word}
+use Rattle.format.proofs.Laws.Decode.{decode_word}
 use Rattle.il_scan.specs.Run.{ScanPoint, whole_scan}
 use Rattle.il_scan.specs.Follow.{ran_all}
 

@@ -13,7 +13,7 @@ use Rattle.std.proofs.Math.ListN.{length-set, get_or-map}
 use Rattle.std.proofs.lemmas.List.{length-map}
 use Rattle.std.proofs.Math.Seq.{set_out}
 use borrow.Author.Tests.{lt-ltb, le-ltb}
-use Rattle.meaning.specs.Laws.Rows.{which, and_l, and_r, and_both}
+use Rattle.meaning.proofs.Laws.Rows.{which, and_l, and_r, and_both}
 use Rattle.meaning.specs.Tables.{most_timers}
 use Rattle.meaning.specs.Literals.{input_on}
 use Rattle.meaning.specs.Machine.{word_of}
@@ -24,8 +24,8 @@ use Rattle.meaning.specs.declared.Operand.{Operand}
 use Rattle.meaning.specs.declared.Operand.TheVariants.{Mx, Ix, Qx, TimerQ, TimerIn, TimerPt, Timer, False, True}
 use Rattle.meaning.specs.declared.Operator.{Operator}
 use Rattle.meaning.specs.declared.Operator.TheVariants.{Ld, Ldn, And, Andn, Or, Close, St, S, R, Cal, LdTime}
-use Rattle.meaning.specs.Laws.Timers.{changed_twice}
-use Rattle.meaning.specs.Laws.Execute.{executed_append}
+use Rattle.meaning.proofs.Laws.Timers.{changed_twice}
+use Rattle.meaning.proofs.Laws.Execute.{executed_append}
 use Rattle.format.specs.declared.Decoded.TheVariants.{Known}
 use Rattle.il_instruction.specs.Effect as run
 use Rattle.il_values.specs.Value.{bit_on, with_bit, value_in, qs_of}

@@ -2,7 +2,7 @@
 use Rattle.std.specs.Prelude.{◌≡◌, Bool, List, ℕ, length, drop}
 use Rattle.std.proofs.Common.{sym, ◌∙◌}
 use Rattle.meaning.specs.Once.{Once, OnceSeen}
-use Rattle.meaning.specs.Laws.Once.{two, is_once}
+use Rattle.meaning.proofs.Laws.Once.{two, is_once}
 use Rattle.il_instruction.specs.declared.Registers.{Registers}
 use Rattle.il_scan.specs.declared.Stop.{Stop}
 use Rattle.il_scan.specs.Run.{advanced, resumed, fresh_registers}

@@ -7,7 +7,7 @@ use Rattle.meaning.specs.Programs.{Program, instructions, program_fits}
 use Rattle.meaning.specs.Scan.{Controller, scan_begun, executed_all, scanned, output_word}
 use Rattle.meaning.specs.declared.Block.{Block}
 use Rattle.format.specs.Words.{words}
-use Rattle.format.specs.Laws.Passing.{program_instructions}
+use Rattle.format.proofs.Laws.Passing.{program_instructions}
 use Rattle.il_scan.specs.Run.{ScanPoint, whole_scan, begun_with}
 use Rattle.il_scan.specs.Follow.{StandsMidScan, program}
 use Rattle.il_scan.specs.Accepted.{scan_words}

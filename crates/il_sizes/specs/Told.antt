@@ -6,8 +6,8 @@ use Rattle.meaning.specs.Programs.{Program, instructions, program_fits, flip_flo
 use Rattle.meaning.specs.declared.Refusal.TheVariants.{Text}
 use Rattle.format.specs.Words.{words, AcceptedWords}
 use Rattle.format.specs.Places.{WordPlace}
-use Rattle.format.specs.Laws.Passing.{program_instructions}
-use Rattle.format.specs.Laws.Words.{words_same, place_same}
+use Rattle.format.proofs.Laws.Passing.{program_instructions}
+use Rattle.format.proofs.Laws.Words.{words_same, place_same}
 use Rattle.grammar_words.specs.Pass.{Holds}
 use Rattle.il_sizes.specs.declared.Sizes.{Sizes}
 use Rattle.il_sizes.specs.declared.Sizes.TheVariants as Sized

@@ -1,7 +1,7 @@
 -- No second answer of what an instruction does to the flip-flops.
 use Rattle.std.specs.Prelude.{◌≡◌, Bool, List, ℕ}
 use Rattle.meaning.specs.Once.{Once}
-use Rattle.meaning.specs.Laws.Once.{is_once}
+use Rattle.meaning.proofs.Laws.Once.{is_once}
 use Rattle.meaning.specs.declared.Operator.{Operator}
 use Rattle.il_stores.specs.Acted.{acted}
 

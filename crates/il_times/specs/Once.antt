@@ -1,8 +1,8 @@
 -- No second answer of any function of this crate.
 use Rattle.std.specs.Prelude.{◌≡◌, Bool, ◌↔◌, List, ℕ}
 use Rattle.meaning.specs.Once.{Once}
-use Rattle.meaning.specs.Laws.Once.{is_once}
-use Rattle.meaning.specs.Laws.Rows.{same_test}
+use Rattle.meaning.proofs.Laws.Once.{is_once}
+use Rattle.meaning.proofs.Laws.Rows.{same_test}
 use Rattle.il_times.specs.Sizes.{rungs_in, no_rungs}
 use Rattle.il_times.specs.Validity.{AreBits}
 

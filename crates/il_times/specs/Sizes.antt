@@ -4,7 +4,7 @@ use Rattle.std.proofs.Common.{◌∙◌, arith, drop_of_length-le, drop-cons, ad
 use Rattle.std.proofs.lemmas.Bool.{false≢true, lt-leb}
 use mathlib.Core.List.{List, [], ◌∷◌, ◌++◌, map, flat_map}
 use Rattle.std.proofs.lemmas.List.Edits.{sets}
-use Rattle.meaning.specs.Laws.Rows.{and_l, and_r, and_both}
+use Rattle.meaning.proofs.Laws.Rows.{and_l, and_r, and_both}
 use Rattle.meaning.specs.Tables.{most_timers}
 use Rattle.meaning.specs.Programs.{Test, Chain, Part, also, bracket, Body, Rung, TimerRung, Program, load_of, and_of, chain_of, part_of, body_of, rung_of, timer_rung_of, timer_rungs_from, instructions, all, body_fits, store_fits, rung_fits, timer_rung_fits, program_fits, flip_flop_bytes}
 use Rattle.meaning.specs.declared.Operand.{Operand}
@@ -14,8 +14,8 @@ use Rattle.format.specs.declared.Decoded.{Decoded}
 use Rattle.format.specs.declared.Decoded.TheVariants.{Known, Unknown}
 use Rattle.format.specs.Words.{word, words}
 use Rattle.format.specs.Decode.{operator_fits, decoded}
-use Rattle.format.specs.Laws.Decode.{decode_word, word_decode}
-use Rattle.format.specs.Laws.Passing.{program_instructions}
+use Rattle.format.proofs.Laws.Decode.{decode_word, word_decode}
+use Rattle.format.proofs.Laws.Passing.{program_instructions}
 use Rattle.il_called.specs.Due.{due, called_by, block_of}
 use Rattle.il_scan.specs.Scans.{Fitting}
 use Rattle.il_sizes.specs.Bytes.{bytes_named, bytes_words}

@@ -4,7 +4,7 @@ use Rattle.std.proofs.Common.{◌∙◌, arith, leb-true}
 use Rattle.std.proofs.lemmas.List.{length-map}
 use Rattle.std.proofs.Math.ListN.{get_or-append}
 use Rattle.std.proofs.lemmas.List.Edits.{sets, sets-eq}
-use Rattle.meaning.specs.Laws.Rows.{and_l}
+use Rattle.meaning.proofs.Laws.Rows.{and_l}
 use Rattle.meaning.specs.Tables.{most_timers}
 use Rattle.meaning.specs.Programs.{TimerRung, Program, all, timer_rung_fits, rung_fits, program_fits}
 use Rattle.meaning.specs.declared.Operand.TheVariants.{True}

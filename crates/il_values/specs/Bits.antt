@@ -3,7 +3,7 @@ use Rattle.std.specs.Prelude.{◌≡◌, ℕ, zero, suc, ◌+◌, ◌*◌, ◌/�
 use Rattle.std.proofs.Common.{sym, ◌∙◌, div-one, inl, inr, arith, pow_pos, shr-shr, eqb-true, eq-eqb, lt-ltb}
 use Rattle.std.proofs.Math.Nat.{pow-succ', div-eq_of_lt, max-zero}
 use Rattle.std.specs.Int.Bits.{bit_or, or_step, or_zero_r}
-use Rattle.meaning.specs.Laws.Bits.{even}
+use Rattle.meaning.proofs.Laws.Bits.{even}
 use Rattle.meaning.specs.Machine.{word_of}
 use Rattle.slices.specs.Numbers.{with_number}
 use Rattle.slices.specs.NumbersLaws.{number_within}

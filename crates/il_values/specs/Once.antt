@@ -1,7 +1,7 @@
 -- No second answer of any function of this crate.
 use Rattle.std.specs.Prelude.{◌≡◌, Bool, List, ℕ, ◌-◌}
 use Rattle.meaning.specs.Once.{Once}
-use Rattle.meaning.specs.Laws.Once.{is_once}
+use Rattle.meaning.proofs.Laws.Once.{is_once}
 use Rattle.meaning.specs.Scan.{flip_flop_on}
 use Rattle.meaning.specs.declared.Operand.{Operand}
 use Rattle.il_values.specs.Value.{with_bit, value_in}

@@ -8,11 +8,11 @@ use Rattle.std.proofs.Math.ListN.{get_or}
 use Rattle.std.proofs.lemmas.List.{get_or-replicate}
 use borrow.Author.Tests.{lt-ltb, le-ltb, le-leb, lt-leb, eq-eqb, ne_eqb}
 use Rattle.meaning.specs.Rows.{count}
-use Rattle.meaning.specs.Laws.Rows.{length_table, get_d_table, count_le, which}
+use Rattle.meaning.proofs.Laws.Rows.{length_table, get_d_table, count_le, which}
 use Rattle.meaning.specs.Tables.{Tables, state_count, super_state, initial}
 use Rattle.meaning.specs.Hierarchy.{sub_state, sub_states}
-use Rattle.meaning.specs.Laws.Hierarchy.{sub_state_tells}
-use Rattle.meaning.specs.Laws.Layout.{width_least}
+use Rattle.meaning.proofs.Laws.Hierarchy.{sub_state_tells}
+use Rattle.meaning.proofs.Laws.Layout.{width_least}
 use Rattle.meaning.specs.Layout.{width, group_width, group_first, flip_flop_count, other_sub_state, code}
 use Rattle.layout.specs.declared.Layout.{Layout}
 use Rattle.layout.specs.Laid.{laid_states, given_code, row, tally, LaidOut}

@@ -1,7 +1,7 @@
 -- No second answer of any function of this crate.
 use Rattle.std.specs.Prelude.{◌≡◌, List, ℕ}
 use Rattle.meaning.specs.Once.{Once}
-use Rattle.meaning.specs.Laws.Once.{states_once, on_states}
+use Rattle.meaning.proofs.Laws.Once.{states_once, on_states}
 use Rattle.meaning.specs.Rows.{least}
 use Rattle.meaning.specs.Tables.{Tables, state_count}
 use Rattle.meaning.specs.Layout.{group_first}

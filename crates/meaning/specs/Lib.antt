@@ -19,5 +19,3 @@ pub mod Stands
 pub mod Demands
 pub mod Cases
 pub mod Once
--- laws
-pub mod Laws

@@ -6,7 +6,7 @@ use Rattle.meaning.specs.Refusals.{number_of, place_of}
 use Rattle.meaning.specs.declared.Refusal.{Refusal}
 use Rattle.format.specs.Text.{bytes, decimal, line}
 use Rattle.format.specs.Printed.{comma, scan_lines, refusal_line}
-use Rattle.format.specs.Laws.Decimals.{decimal_few}
+use Rattle.format.proofs.Laws.Decimals.{decimal_few}
 
 -- ",a,b" and LF
 abbrev pub end_of : ℕ → ℕ → List ℕ

@@ -8,7 +8,7 @@ use native.Mathlib.Omega.{arith}
 use Rattle.meaning.specs.Literals.{kind_of}
 use Rattle.std.proofs.Math.ListN.{length-append}
 use Rattle.meaning.specs.Rows.{table, some}
-use Rattle.meaning.specs.Laws.Rows.{which, flat_map_append, some_more}
+use Rattle.meaning.proofs.Laws.Rows.{which, flat_map_append, some_more}
 use Rattle.meaning.specs.Refusals.{number_of, place_of}
 use Rattle.meaning.specs.Tables.{Tables, most_inputs, most_timers, most_moves, literal_places, move_count, source, target, super_state, literal}
 use Rattle.meaning.specs.Hierarchy.{up, levels, depth}
@@ -18,7 +18,7 @@ use Rattle.meaning.specs.declared.Kind.{Kind}
 use Rattle.meaning.specs.declared.Kind.TheVariants as K
 use Rattle.meaning.specs.declared.Operand.TheVariants.{Ix, TimerQ}
 use Rattle.format.specs.Text.{bytes, decimal, operand_text, line}
-use Rattle.format.specs.Laws.Decimals.{decimal_few, decimal_small, decimal_last}
+use Rattle.format.proofs.Laws.Decimals.{decimal_few, decimal_small, decimal_last}
 use Rattle.format.specs.Printed.{refusal_line}
 use Rattle.format.specs.NeedsTable.{names_of, thing_names, spaced, things_text, upward, needs_line, needs_table, overlap_line, needs_page}
 use Rattle.meaning.specs.declared.Refusal.{Refusal}

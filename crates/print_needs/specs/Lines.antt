@@ -3,7 +3,7 @@ use Rattle.std.specs.Prelude.{◌≡◌, refl, ℕ, suc, ◌+◌, ℤ}
 use Rattle.std.proofs.Common.{sym, ap, ◌∙◌, arith}
 use mathlib.Core.List.{List, [], ◌∷◌, ◌++◌, flat_map, append_assoc, append-nil}
 use Rattle.meaning.specs.Rows.{table}
-use Rattle.meaning.specs.Laws.Rows.{flat_map_append, table_snoc}
+use Rattle.meaning.proofs.Laws.Rows.{flat_map_append, table_snoc}
 use Rattle.meaning.specs.Tables.{Tables, timer_count, source, target, super_state}
 use Rattle.meaning.specs.Hierarchy.{up, depth}
 use Rattle.meaning.specs.Needs as N

@@ -5,7 +5,7 @@ use Rattle.std.proofs.Math.Bool.{or-true, or-false}
 use Rattle.std.proofs.lemmas.Bool.{false≢true}
 use mathlib.Core.List.{List, [], ◌∷◌, ◌++◌, flat_map, append_assoc, append-nil}
 use Rattle.meaning.specs.Rows.{table, most64}
-use Rattle.meaning.specs.Laws.Rows.{flat_map_append, rows_snoc}
+use Rattle.meaning.proofs.Laws.Rows.{flat_map_append, rows_snoc}
 use Rattle.meaning.specs.Tables.{most_inputs, most_timers}
 use Rattle.meaning.specs.Literals.{input_on}
 use Rattle.meaning.specs.Needs as N

@@ -2,7 +2,7 @@
 use Rattle.std.proofs.Common.{sym, ◌∙◌}
 use Rattle.std.specs.Prelude.{List, ℕ, ℤ}
 use Rattle.meaning.specs.Once.{Once}
-use Rattle.meaning.specs.Laws.Once.{two}
+use Rattle.meaning.proofs.Laws.Once.{two}
 use Rattle.tables.specs.Given.{tables_of}
 use Rattle.tables.specs.declared.Chart.{Chart}
 use Rattle.print_lines.specs.declared.Printed.{Printed}

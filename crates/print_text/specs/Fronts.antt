@@ -4,7 +4,7 @@ use Rattle.std.proofs.Common.{sym, ap, ◌∙◌, arith, length-take, take_all}
 use Rattle.meaning.specs.Rows.{least}
 use Rattle.meaning.specs.Tables.{Tables, state_count, move_count, timer_count, pair_count}
 use Rattle.meaning.specs.Rules.{SizeRule}
-use Rattle.meaning.specs.Laws.Rules.{size_tells}
+use Rattle.meaning.proofs.Laws.Rules.{size_tells}
 use Rattle.meaning.specs.Check.{checks, first_failing, verdict_of, verdict, size_passes}
 use Rattle.meaning.specs.declared.Refusal.TheVariants as R
 use Rattle.meaning.specs.declared.Verdict.TheVariants.{Refused}

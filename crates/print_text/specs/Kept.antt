@@ -9,7 +9,7 @@ use Rattle.std.proofs.lemmas.List.Edits.{sets, sets-eq}
 use Rattle.std.proofs.Math.Seq.{set_out, set-append_seam}
 use Rattle.std.proofs.lemmas.Bool.{not-false}
 use Rattle.meaning.specs.Programs.{all}
-use Rattle.meaning.specs.Laws.Rows.{which, and_l, and_r, least_before}
+use Rattle.meaning.proofs.Laws.Rows.{which, and_l, and_r, least_before}
 use Rattle.meaning.specs.Check.{Check, first_failing}
 use Rattle.format.specs.Records.{Column, records, fields, field_value, record_passes, numbers}
 use Rattle.format.specs.Printed.{record_at, file_check}

@@ -10,7 +10,7 @@ use Rattle.meaning.specs.declared.Refusal.{Refusal}
 use Rattle.meaning.specs.declared.Verdict.{Verdict}
 use Rattle.meaning.specs.declared.Verdict.TheVariants.{Accepted, Refused}
 use Rattle.format.specs.Text.{bytes, decimal}
-use Rattle.format.specs.Laws.Decimals.{decimal_few}
+use Rattle.format.proofs.Laws.Decimals.{decimal_few}
 use Rattle.format.specs.Printed.{chart_text, room_check, scan_lines, refusal_line, most_text}
 use Rattle.check_tables.specs.Verdicts.{is_refused, go, passed}
 use Rattle.print_lines.specs.Results.{end_of, scan_lines_from, end_few, refusal_few, lines_are}

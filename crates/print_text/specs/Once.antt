@@ -1,7 +1,7 @@
 -- No second answer of what is printed.
 use Rattle.std.specs.Prelude.{List, ℕ}
 use Rattle.meaning.specs.Once.{Once}
-use Rattle.meaning.specs.Laws.Once.{two}
+use Rattle.meaning.proofs.Laws.Once.{two}
 use Rattle.csv_tables.specs.declared.Answers.{Answers}
 use Rattle.print_lines.specs.declared.Printed.{Printed}
 use Rattle.print_text.specs.declared.PageKind.{PageKind}

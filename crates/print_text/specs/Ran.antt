@@ -8,13 +8,13 @@ use Rattle.std.proofs.lemmas.List.{length-map}
 use Rattle.std.proofs.Math.Seq.{take-append_seam, drop-append_seam}
 use borrow.Author.Tests.{eq-eqb}
 use Rattle.meaning.specs.Rows.{least}
-use Rattle.meaning.specs.Laws.Rows.{which}
+use Rattle.meaning.proofs.Laws.Rows.{which}
 use Rattle.meaning.specs.Tables.{Tables}
 use Rattle.meaning.specs.Check.{Check, checks, first_failing, verdict_of, verdict}
-use Rattle.meaning.specs.Laws.Verdict.{accepted_exactly}
+use Rattle.meaning.proofs.Laws.Verdict.{accepted_exactly}
 use Rattle.meaning.specs.Calls.{scans_check, overlaid}
 use Rattle.meaning.specs.History.{history_reading}
-use Rattle.meaning.specs.Laws.History.{run_is_reading}
+use Rattle.meaning.proofs.Laws.History.{run_is_reading}
 use Rattle.meaning.specs.Machine.{Seen, start_state, trace}
 use Rattle.meaning.specs.declared.Refusal.{Refusal}
 use Rattle.meaning.specs.declared.Verdict.{Verdict}

@@ -2,10 +2,10 @@
 use Rattle.std.specs.Prelude.{◌≡◌, refl, ℕ, ◌≤◌, List, ◌++◌}
 use Rattle.std.proofs.Common.{sym, ap, ◌∙◌, arith}
 use Rattle.meaning.specs.Once.{Once}
-use Rattle.meaning.specs.Laws.Rows.{same_test}
+use Rattle.meaning.proofs.Laws.Rows.{same_test}
 use Rattle.format.specs.Text.{decimal}
 use Rattle.format.specs.Automata.Lines.{leading}
-use Rattle.format.specs.Laws.Decimals.{leading_all}
+use Rattle.format.proofs.Laws.Decimals.{leading_all}
 use Rattle.read_decimals.specs.declared.Number.TheVariants as N
 use Rattle.read_decimals.specs.Forms.{SameWord, Spells}
 use Rattle.read_decimals.specs.FormLaws.{cut}

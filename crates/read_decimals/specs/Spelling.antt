@@ -4,12 +4,12 @@ use Rattle.std.proofs.Math.Path.{sym, ap}
 use Rattle.std.proofs.Common.{ap₂, ◌∙◌, inl, inr, arith, drop_of_length-le, take-suc, drop-cons, length-take-le, get_or-take}
 use Rattle.std.proofs.Math.Decide.{dec_le}
 use mathlib.Core.List.{List, [], ◌∷◌, ◌++◌, append-nil}
-use Rattle.meaning.specs.Laws.Rows.{which}
+use Rattle.meaning.proofs.Laws.Rows.{which}
 use Rattle.meaning.specs.Literals.{between}
 use Rattle.format.specs.Text.{decimal}
 use Rattle.format.specs.Automata.Lines.{leading}
-use Rattle.format.specs.Laws.Decode.{within}
-use Rattle.format.specs.Laws.Decimals.{decimal_small, decimal_more, no_leading_zero, leading_yes, leading_decimal}
+use Rattle.format.proofs.Laws.Decode.{within}
+use Rattle.format.proofs.Laws.Decimals.{decimal_small, decimal_more, no_leading_zero, leading_yes, leading_decimal}
 
 -- the first i bytes of l are a decimal of n, where i is not 0
 pub record Spelling (l : List ℕ) (i n : ℕ) : Type 0 where

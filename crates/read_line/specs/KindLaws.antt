@@ -7,7 +7,7 @@ use native.Mathlib.Omega.{arith}
 use Rattle.std.proofs.Math.Bool.{true, false≢true, or-false}
 use Rattle.std.proofs.Math.ListN.{get_or}
 use borrow.Author.Tests.{le-leb, leb-true}
-use Rattle.meaning.specs.Laws.Rows.{or_cases, or_l}
+use Rattle.meaning.proofs.Laws.Rows.{or_cases, or_l}
 use Rattle.meaning.specs.Programs.{testable, constant, flip_flop_fits, output_fits}
 use Rattle.meaning.specs.declared.Operand.{Operand}
 use Rattle.meaning.specs.declared.Operand.TheVariants.{Mx, Ix, Qx, TimerQ, TimerIn, TimerPt, Timer, False, True}
@@ -17,9 +17,9 @@ use Rattle.format.specs.declared.Line.{Line}
 use Rattle.format.specs.declared.Line.TheVariants.{Header, Var, Block, EndVar, Says, EndProgram, Unknown}
 use Rattle.format.specs.Text.{bytes, decimal, operand_text, operator_text}
 use Rattle.format.specs.Decode.{parameter_fits, block_fits, operator_fits}
-use Rattle.format.specs.Laws.Decode.{within, in_range}
+use Rattle.format.proofs.Laws.Decode.{within, in_range}
 use Rattle.format.specs.Automata.Lines.{leading, timer_operand, operand_in, operator_in, line_in, line_text, line_fits, said}
-use Rattle.format.specs.Laws.Lines.{said_is, said_none}
+use Rattle.format.proofs.Laws.Lines.{said_is, said_none}
 use Rattle.read_decimals.specs.declared.Number.TheVariants as N
 use Rattle.read_operands.specs.declared.Named.TheVariants as O
 use Rattle.read_decimals.specs.Forms.{SameWord, Spells}

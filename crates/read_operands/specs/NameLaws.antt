@@ -8,7 +8,7 @@ use Rattle.meaning.specs.Programs.{testable}
 use Rattle.meaning.specs.declared.Operand.{Operand}
 use Rattle.meaning.specs.declared.Operand.TheVariants.{Mx, Ix, Qx, TimerQ, TimerIn, TimerPt, Timer, False, True}
 use Rattle.format.specs.Text.{bytes, decimal, operand_text}
-use Rattle.format.specs.Laws.Decode.{within, in_range}
+use Rattle.format.proofs.Laws.Decode.{within, in_range}
 use Rattle.read_decimals.specs.declared.Number.TheVariants as N
 use Rattle.read_decimals.specs.Forms.{Spells}
 use Rattle.read_operands.specs.declared.Named.{Named}

@@ -12,7 +12,7 @@ use Rattle.format.specs.declared.Line.TheVariants.{Header, Var, Block, EndVar, S
 use Rattle.format.specs.Text.{bytes, operand_text, operator_text}
 use Rattle.format.specs.Decode.{operator_fits}
 use Rattle.format.specs.Automata.Lines.{line_text, line_fits, said}
-use Rattle.format.specs.Laws.Lines.{said_is}
+use Rattle.format.proofs.Laws.Lines.{said_is}
 use Rattle.read_operands.specs.declared.Named.TheVariants as O
 use Rattle.read_operands.specs.Names.{Names}
 

@@ -5,7 +5,7 @@ use native.Mathlib.Omega.{arith}
 use mathlib.Core.Bool.{Bool, true, false, ◌&&◌, ◌||◌, and-true, and-false}
 use lib.Dec.{eqb, leb}
 use borrow.Author.Tests.{eqb-true, le-leb, lt-leb}
-use Rattle.meaning.specs.Laws.Rows.{and_l}
+use Rattle.meaning.proofs.Laws.Rows.{and_l}
 use Rattle.meaning.specs.declared.Operator.{Operator}
 use Rattle.format.specs.declared.Line.TheVariants.{Header, Var, Block, EndVar, Says, EndProgram}
 use Rattle.format.specs.declared.Stage.TheVariants.{Title, Headed, Declaring, Rungs, Ended, Broken}

@@ -8,7 +8,7 @@ use Rattle.std.proofs.Math.ListN.{length}
 use Rattle.std.proofs.lemmas.List.{length-map}
 use Rattle.std.proofs.Math.Seq.{slice, length-sets}
 use Rattle.std.proofs.lemmas.List.Edits.{sets}
-use Rattle.meaning.specs.Laws.Rows.{sets_append}
+use Rattle.meaning.proofs.Laws.Rows.{sets_append}
 use Rattle.meaning.specs.Programs.{instructions, all}
 use Rattle.meaning.specs.declared.Operator.{Operator}
 use Rattle.format.specs.declared.Line.{Line}
@@ -18,13 +18,13 @@ use Rattle.format.specs.Words.{word, words}
 use Rattle.format.specs.Places.{TextPlace, WholeLines}
 use Rattle.format.specs.Text.{AcceptedText}
 use Rattle.format.specs.Decode.{operator_fits}
-use Rattle.format.specs.Laws.Decode.{word_small}
+use Rattle.format.proofs.Laws.Decode.{word_small}
 use Rattle.format.specs.Automata.Lines.{line_fits, said, first_page, turn, after_lines}
-use Rattle.format.specs.Laws.Lines.{one_line}
+use Rattle.format.proofs.Laws.Lines.{one_line}
 use Rattle.format.specs.Automata.Lines.{page_stands, over}
-use Rattle.format.specs.Laws.Words.{place_same}
-use Rattle.format.specs.Laws.Text.{spoken, text_same, said_known}
-use Rattle.format.specs.Laws.TextReader.{Taken, taken_refused, taken_unfinished, taken_over, slice_one_line, drop_one_line, taken_line}
+use Rattle.format.proofs.Laws.Words.{place_same}
+use Rattle.format.proofs.Laws.Text.{spoken, text_same, said_known}
+use Rattle.format.proofs.Laws.TextReader.{Taken, taken_refused, taken_unfinished, taken_over, slice_one_line, drop_one_line, taken_line}
 use Rattle.read_pass.specs.declared.PassEnd.{PassEnd}
 use Rattle.read_pass.specs.declared.PassEnd.TheVariants.{Over, Stopped}
 use Rattle.read_pass.specs.Passes.{LineEnd, words_counted, placed, TextPassed, Pass}

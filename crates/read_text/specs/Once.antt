@@ -1,7 +1,7 @@
 -- No second answer of the reader of a text.
 use Rattle.std.specs.Prelude.{List, ℕ}
 use Rattle.meaning.specs.Once.{Once}
-use Rattle.meaning.specs.Laws.Once.{two}
+use Rattle.meaning.proofs.Laws.Once.{two}
 use Rattle.read_text.specs.declared.TextAnswer.{TextAnswer}
 use Rattle.read_text.specs.Reads.{TextRead}
 use Rattle.read_text.specs.ReadLaws.{text_read_once}

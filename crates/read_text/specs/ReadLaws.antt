@@ -7,8 +7,8 @@ use Rattle.meaning.specs.declared.Refusal.TheVariants.{Room, Text}
 use Rattle.format.specs.Words.{words}
 use Rattle.format.specs.Places.{TextPlace, WholeLines, room}
 use Rattle.format.specs.Text.{AcceptedText}
-use Rattle.format.specs.Laws.Words.{place_same}
-use Rattle.format.specs.Laws.Text.{text_same}
+use Rattle.format.proofs.Laws.Words.{place_same}
+use Rattle.format.proofs.Laws.Text.{text_same}
 use Rattle.read_pass.specs.declared.PassEnd.{PassEnd}
 use Rattle.read_pass.specs.declared.PassEnd.TheVariants.{Over, Stopped}
 use Rattle.read_pass.specs.Passes.{TextPassed, Pass}

@@ -5,7 +5,7 @@ use Rattle.meaning.specs.Programs.{Program, program_fits}
 use Rattle.meaning.specs.Calls.{overlaid}
 use Rattle.format.specs.Words.{words}
 use Rattle.format.specs.Text.{text}
-use Rattle.format.specs.Laws.Words.{words_same}
+use Rattle.format.proofs.Laws.Words.{words_same}
 use Rattle.read_text.specs.declared.TextAnswer.{TextAnswer}
 use Rattle.read_text.specs.declared.TextAnswer.TheVariants as Out
 use Rattle.read_text.specs.Reads.{TextRead, reads, cramped, refuses}

@@ -1,7 +1,7 @@
 -- No second answer of the run of a written text.
 use Rattle.std.specs.Prelude.{List, ℕ, ℤ}
 use Rattle.meaning.specs.Once.{Once}
-use Rattle.meaning.specs.Laws.Once.{five}
+use Rattle.meaning.proofs.Laws.Once.{five}
 use Rattle.tables.specs.Given.{tables_of}
 use Rattle.tables.specs.declared.Chart.{Chart}
 use Rattle.roundtrip_call.specs.declared.WrittenRun.{WrittenRun}

@@ -8,10 +8,10 @@ use Rattle.std.proofs.lemmas.List.{drop-append-le}
 use Rattle.meaning.specs.Tables.{Tables}
 use Rattle.meaning.specs.Rules.{Rules}
 use Rattle.meaning.specs.Check.{verdict_of, checks, verdict}
-use Rattle.meaning.specs.Laws.Verdict.{accepted_exactly}
+use Rattle.meaning.proofs.Laws.Verdict.{accepted_exactly}
 use Rattle.meaning.specs.Calls.{scans_check, overlaid}
 use Rattle.meaning.specs.Written.{program}
-use Rattle.meaning.specs.Laws.Programs.{program_fits_lem}
+use Rattle.meaning.proofs.Laws.Programs.{program_fits_lem}
 use Rattle.meaning.specs.declared.Refusal.{Refusal}
 use Rattle.meaning.specs.declared.Refusal.TheVariants as R
 use Rattle.meaning.specs.declared.Verdict.{Verdict}
@@ -19,7 +19,7 @@ use Rattle.meaning.specs.declared.Verdict.TheVariants.{Accepted, Refused}
 use Rattle.format.specs.Words.{words}
 use Rattle.format.specs.Places.{room}
 use Rattle.format.specs.Printed.{chart_text, room_check}
-use Rattle.format.specs.Laws.Bytes.{chart_translated, words_short}
+use Rattle.format.proofs.Laws.Bytes.{chart_translated, words_short}
 use Rattle.chart_lent.specs.Slice.{left}
 use Rattle.chart_lent.specs.RunLaws.{one_row}
 use Rattle.check_tables.specs.Verdicts.{is_refused, stop, go}

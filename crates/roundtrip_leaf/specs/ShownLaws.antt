@@ -4,14 +4,14 @@ use Rattle.std.proofs.Common.{inl, inr, arith, lt_of_lt_of_le, pow_mono}
 use Rattle.std.proofs.Math.Decide.{dec_le}
 use Rattle.std.proofs.Math.ListN.{get_or-eq_default}
 use Rattle.meaning.specs.Rows.{table, count}
-use Rattle.meaning.specs.Laws.Rows.{which, least_to, count_le}
+use Rattle.meaning.proofs.Laws.Rows.{which, least_to, count_le}
 use Rattle.meaning.specs.Tables.{Tables, state_count, initial}
 use Rattle.meaning.specs.Hierarchy.{sub_state, sub_states, is_leaf}
 use Rattle.meaning.specs.Layout.{group_width, group_first}
 use Rattle.meaning.specs.Rules.{Rules}
-use Rattle.meaning.specs.Laws.Tree.{depth_root, initial_leaf, initial_sub}
-use Rattle.meaning.specs.Laws.Follow.{stays_at_leaf, descends, super_known}
-use Rattle.meaning.specs.Laws.Layout.{code_at_lt}
+use Rattle.meaning.proofs.Laws.Tree.{depth_root, initial_leaf, initial_sub}
+use Rattle.meaning.proofs.Laws.Follow.{stays_at_leaf, descends, super_known}
+use Rattle.meaning.proofs.Laws.Layout.{code_at_lt}
 use Rattle.meaning.specs.Machine.{descend, follow, word_of}
 use Rattle.meaning.specs.Scan.{flip_flop_on}
 use Rattle.meaning.specs.Lent.{coded}

@@ -4,22 +4,22 @@ use Rattle.std.proofs.Math.Path.{refl, ap, subst}
 use Rattle.std.proofs.Common.{sym, ◌∙◌, arith, add-one, take_all, take_at}
 use Rattle.std.proofs.Math.ListN.{get_or, length-replicate}
 use Rattle.std.proofs.lemmas.List.{replicate-append-replicate}
-use Rattle.meaning.specs.Laws.Rows.{get_d_equal}
+use Rattle.meaning.proofs.Laws.Rows.{get_d_equal}
 use Rattle.meaning.specs.Tables.{Tables}
 use Rattle.meaning.specs.Layout.{flip_flop_count}
 use Rattle.meaning.specs.Rules.{Rules}
 use Rattle.meaning.specs.Machine.{State, start_state, state_after_step, Seen, seen_in, trace, state_after_scans, Valid}
-use Rattle.meaning.specs.Laws.Machine.{start_valid, step_valid}
+use Rattle.meaning.proofs.Laws.Machine.{start_valid, step_valid}
 use Rattle.meaning.specs.History.{history_reading}
-use Rattle.meaning.specs.Laws.History.{run_is_reading}
+use Rattle.meaning.proofs.Laws.History.{run_is_reading}
 use Rattle.meaning.specs.Scan.{Controller, blank, block_at}
 use Rattle.meaning.specs.Written.{program}
-use Rattle.meaning.specs.Laws.Programs.{program_fits_lem}
+use Rattle.meaning.proofs.Laws.Programs.{program_fits_lem}
 use Rattle.meaning.specs.Stands.{StandsFor, coded_leaf}
-use Rattle.meaning.specs.Laws.Stands.{start_stands}
-use Rattle.meaning.specs.Laws.Simulate.{HoldsProgram}
+use Rattle.meaning.proofs.Laws.Stands.{start_stands}
+use Rattle.meaning.proofs.Laws.Simulate.{HoldsProgram}
 use Rattle.meaning.specs.Demands.{seen_after_scan}
-use Rattle.meaning.specs.Laws.Demands.{held_step}
+use Rattle.meaning.proofs.Laws.Demands.{held_step}
 use Rattle.meaning.specs.declared.Block.{Block}
 use Rattle.format.specs.Words.{words}
 use Rattle.layout.specs.Laid.{LaidOut}

@@ -2,7 +2,7 @@
 use Rattle.std.specs.Prelude.{◌≡◌, List, ℕ, length}
 use Rattle.std.proofs.Common.{sym, ◌∙◌}
 use Rattle.meaning.specs.Once.{Once}
-use Rattle.meaning.specs.Laws.Once.{two}
+use Rattle.meaning.proofs.Laws.Once.{two}
 use Rattle.meaning.specs.Tables.{Tables}
 use Rattle.meaning.specs.Rules.{Rules}
 use Rattle.roundtrip_run.specs.AsRead.{chart_words, AsRead}

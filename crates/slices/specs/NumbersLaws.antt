@@ -3,7 +3,7 @@ use Rattle.std.specs.Prelude.{◌≡◌, ◌||◌, ℕ, ◌-◌, ◌^◌, ◌≤
 use Rattle.std.proofs.Common.{ap, ◌∙◌, le-leb}
 use Rattle.std.specs.Int.Bits.{bit_or}
 use Rattle.meaning.specs.Literals.{input_on}
-use Rattle.meaning.specs.Laws.Bits.{number_bit}
+use Rattle.meaning.proofs.Laws.Bits.{number_bit}
 use Rattle.slices.specs.Numbers.{with_number}
 
 -- a number that a word has a bit for

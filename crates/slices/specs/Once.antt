@@ -1,7 +1,7 @@
 -- No second answer of any function of this crate.
 use Rattle.std.specs.Prelude.{◌≡◌, List, ℕ, min, get_or, set, ℤ}
 use Rattle.meaning.specs.Once.{Once}
-use Rattle.meaning.specs.Laws.Once.{is_once}
+use Rattle.meaning.proofs.Laws.Once.{is_once}
 use Rattle.slices.specs.Numbers.{with_number}
 
 pub number_once : (l : List ℕ) (i : ℕ) → Once (λ r. r ≡ get_or l i 0)

@@ -1,7 +1,7 @@
 -- No second answer of any function of this crate.
 use Rattle.std.specs.Prelude.{◌≡◌, List, ℕ, replicate, ℤ, nat_abs}
 use Rattle.meaning.specs.Once.{Once}
-use Rattle.meaning.specs.Laws.Once.{is_once, states_once, moves_once}
+use Rattle.meaning.proofs.Laws.Once.{is_once, states_once, moves_once}
 use Rattle.meaning.specs.Tables.{Tables, super_state, initial, pair_number, pair_state, cell, source, target, mark, literal}
 use Rattle.meaning.specs.Hierarchy.{depth, sub_state, is_leaf}
 use Rattle.meaning.specs.Literals.{kind_of, wanted}

@@ -6,7 +6,7 @@ use Rattle.std.proofs.Math.Decide.{dec_le}
 use Rattle.std.proofs.Math.Bool.{or-false}
 use Rattle.std.proofs.lemmas.Bool.{false≢true}
 use borrow.Author.Tests.{leb-true, le-leb, lt-leb, ne_eqb}
-use Rattle.meaning.specs.Laws.Rows.{which, or_l, or_cases}
+use Rattle.meaning.proofs.Laws.Rows.{which, or_l, or_cases}
 use Rattle.meaning.specs.Programs.{testable, constant, flip_flop_fits, output_fits}
 use Rattle.meaning.specs.declared.Operand.{Operand}
 use Rattle.meaning.specs.declared.Operand.TheVariants.{Mx, Ix, Qx, TimerQ, TimerIn, TimerPt, Timer, False, True}
@@ -14,8 +14,8 @@ use Rattle.meaning.specs.declared.Operator.{Operator}
 use Rattle.meaning.specs.declared.Operator.TheVariants.{Ld, Ldn, And, Andn, St, S, R, Cal, LdTime}
 use Rattle.format.specs.declared.Decoded.TheVariants.{Known, Unknown}
 use Rattle.format.specs.Decode.{parameter_fits, block_fits, operator_fits, operand_of, kept, unpacked}
-use Rattle.format.specs.Laws.Decode.{within, in_range}
-use Rattle.format.specs.Laws.Operands.{operand_mx, operand_ix, operand_qx, operand_timer_q, operand_timer_in, operand_timer_pt, operand_timer}
+use Rattle.format.proofs.Laws.Decode.{within, in_range}
+use Rattle.format.proofs.Laws.Operands.{operand_mx, operand_ix, operand_qx, operand_timer_q, operand_timer_in, operand_timer_pt, operand_timer}
 
 -- ---- the operand of a number
 

@@ -1,7 +1,7 @@
 -- No second answer of an instruction's word.
 use Rattle.std.specs.Prelude.{◌≡◌, ◌%◌}
 use Rattle.meaning.specs.Once.{Once}
-use Rattle.meaning.specs.Laws.Once.{is_once}
+use Rattle.meaning.proofs.Laws.Once.{is_once}
 use Rattle.meaning.specs.declared.Operator.{Operator}
 use Rattle.format.specs.Words.{word}
 

@@ -6,11 +6,11 @@ use native.Mathlib.Omega.{arith}
 use Rattle.std.proofs.Math.Decide.{dec_le, ℕ_discrete}
 use Rattle.meaning.specs.Tables.{Tables, state_count, super_state}
 use Rattle.meaning.specs.Hierarchy.{up, depth}
-use Rattle.meaning.specs.Laws.Hierarchy.{sub_state_tells}
-use Rattle.meaning.specs.Laws.Layout.{group_fits}
+use Rattle.meaning.proofs.Laws.Hierarchy.{sub_state_tells}
+use Rattle.meaning.proofs.Laws.Layout.{group_fits}
 use Rattle.meaning.specs.Rules.{SubState, Rules}
-use Rattle.meaning.specs.Laws.Tree.{super_lt, depth_sub, depth_root, depth_up, up_le}
-use Rattle.meaning.specs.Laws.Tests.{sub_of_super}
+use Rattle.meaning.proofs.Laws.Tree.{super_lt, depth_sub, depth_root, depth_up, up_le}
+use Rattle.meaning.proofs.Laws.Tests.{sub_of_super}
 use Rattle.meaning.specs.Written.{bits_from, group_bits}
 use Rattle.layout.specs.Laid.{LaidOut}
 use Rattle.layout.specs.LaidLaws.{first_at, width_at, code_at_lem, total_is}

@@ -5,7 +5,7 @@ use Rattle.std.proofs.Math.Path.{fun_ext}
 use mathlib.Core.List.{List, [], ◌∷◌, ◌++◌, map, flat_map, append-nil}
 use Rattle.std.proofs.Math.Nat.{div-div-eq-div-mul, pow-succ'}
 use Rattle.meaning.specs.Rows.{table}
-use Rattle.meaning.specs.Laws.Rows.{table_snoc, flat_map_append}
+use Rattle.meaning.proofs.Laws.Rows.{table_snoc, flat_map_append}
 use Rattle.meaning.specs.Tables.{Tables, super_state, literal}
 use Rattle.meaning.specs.Hierarchy.{depth}
 use Rattle.meaning.specs.Layout.{group_first, group_width, flip_flop_count, code}

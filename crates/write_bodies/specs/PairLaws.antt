@@ -7,7 +7,7 @@ use Prim.Native.Nat.{ℕ, zero, suc, ◌+◌, ◌-◌, ◌≤◌, ◌<◌}
 use native.Mathlib.Omega.{arith}
 use Rattle.std.proofs.Math.Decide.{dec_le}
 use Rattle.meaning.specs.Rows.{table}
-use Rattle.meaning.specs.Laws.Rows.{flat_map_append, rows_snoc}
+use Rattle.meaning.proofs.Laws.Rows.{flat_map_append, rows_snoc}
 use Rattle.meaning.specs.Tables.{Tables, pair_count, pair_number, pair_state}
 use Rattle.meaning.specs.Programs.{Test, also, bracket, load_of, and_of, chain_of, part_of, body_of}
 use Rattle.meaning.specs.Written.{state_tests, chain, or_body, and_body, pair_states, pairs_body}

@@ -4,7 +4,7 @@ use Rattle.std.specs.Prelude.{◌≡◌, refl, List, [], ◌++◌, ℕ, ◌+◌,
 use Rattle.std.proofs.Common.{sym, ◌∙◌, arith, length-append}
 use Rattle.std.proofs.lemmas.List.Edits.{sets}
 use Rattle.meaning.specs.Rows.{most64}
-use Rattle.meaning.specs.Laws.Rows.{sets_append}
+use Rattle.meaning.proofs.Laws.Rows.{sets_append}
 use Rattle.write_lines.specs.Put.{BytesPut, put_length}
 
 pub record PutIfRoom (l : List ℕ) (i : ℕ) (w m : List ℕ) (r : ℕ) : Type 0 where

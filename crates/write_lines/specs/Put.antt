@@ -4,7 +4,7 @@ use Rattle.std.proofs.Common.{ap, sym, ◌∙◌, arith, length-append}
 use Rattle.std.proofs.Math.Decide.{dec_le}
 use Rattle.std.proofs.lemmas.List.Edits.{sets}
 use Rattle.std.proofs.Math.Seq.{length-sets}
-use Rattle.meaning.specs.Laws.Rows.{sets_append, sets_out}
+use Rattle.meaning.proofs.Laws.Rows.{sets_append, sets_out}
 use Rattle.meaning.specs.Rows.{most64}
 
 -- the list m and the place r that a writer of w leaves, where it starts at the place i of l

@@ -7,7 +7,7 @@ use Rattle.std.proofs.Math.ListN.{length}
 use Rattle.std.proofs.Math.Seq.{sets, sets-eq}
 use borrow.Author.Tests.{le-leb, lt-leb}
 use Rattle.meaning.specs.Rows.{most64}
-use Rattle.meaning.specs.Laws.Rows.{no_length}
+use Rattle.meaning.proofs.Laws.Rows.{no_length}
 use Rattle.meaning.specs.Calls.{overlaid}
 use Rattle.meaning.specs.declared.Refusal.TheVariants as R
 use Rattle.format.specs.Places.{room}

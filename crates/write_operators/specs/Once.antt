@@ -1,7 +1,7 @@
 -- No second answer of any function of this crate; of an operator, where it fits.
 use Rattle.std.specs.Prelude.{◌≡◌, Bool, List, ℕ}
 use Rattle.meaning.specs.Once.{Once}
-use Rattle.meaning.specs.Laws.Once.{is_once}
+use Rattle.meaning.proofs.Laws.Once.{is_once}
 use Rattle.write_lines.specs.Fit.{PutIfRoom}
 use Rattle.write_lines.specs.Once.{RoomFor, one_fit}
 use Rattle.write_operators.specs.declared.Way.{Way}

@@ -6,12 +6,12 @@ use Rattle.std.proofs.Math.Logic.{inl, inr}
 use Rattle.std.proofs.lemmas.Bool.{false≢true}
 use mathlib.Core.List.{List, [], ◌∷◌, ◌++◌, flat_map, append-nil}
 use Prim.Native.Nat.{ℕ, zero, suc, ◌+◌, ◌<◌, min}
-use Rattle.meaning.specs.Laws.Rows.{which}
+use Rattle.meaning.proofs.Laws.Rows.{which}
 use Rattle.meaning.specs.Tables.{Tables, state_count, initial, source, target, mark}
 use Rattle.meaning.specs.Hierarchy.{is_leaf}
 use Rattle.meaning.specs.Layout.{flip_flop_count}
 use Rattle.meaning.specs.Rules.{SubState}
-use Rattle.meaning.specs.Laws.Tree.{initial_sub, initial_leaf}
+use Rattle.meaning.proofs.Laws.Tree.{initial_sub, initial_leaf}
 use Rattle.meaning.specs.Programs.{Test, load_of, chain_of, body_of, rung_of}
 use Rattle.meaning.specs.Written.{group_bits, path_bits, bit_store, literal_tests, state_tests, chain, or_body, and_body, initial_stores, stores_from, move_stores, rung_with, move_rungs, copy_rungs}
 use Rattle.meaning.specs.declared.Operand.TheVariants.{Mx}

@@ -3,7 +3,7 @@ use Rattle.std.specs.Prelude.{◌≡◌, ℕ, suc, ◌+◌, ◌-◌, length, get
 use Rattle.std.proofs.Math.Path.{sym, ap, ap₂}
 use Rattle.std.proofs.Common.{subst, ◌∙◌, arith}
 use mathlib.Core.List.{List, [], ◌∷◌, ◌++◌, flat_map, append-nil}
-use Rattle.meaning.specs.Laws.Rows.{rows_snoc}
+use Rattle.meaning.proofs.Laws.Rows.{rows_snoc}
 use Rattle.meaning.specs.Tables.{Tables, preset, timer_count}
 use Rattle.meaning.specs.Programs.{body_of, rung_of, timer_rung_of}
 use Rattle.meaning.specs.Rules.{Rules}

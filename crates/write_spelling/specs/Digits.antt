@@ -2,7 +2,7 @@
 use Rattle.std.specs.Prelude.{◌≡◌, List, [], ◌∷◌, ◌++◌, ℕ, ◌+◌, ◌/◌, ◌%◌, ◌≤◌, ◌<◌}
 use Rattle.std.proofs.Common.{ap, ◌∙◌, arith}
 use Rattle.format.specs.Text.{decimal}
-use Rattle.format.specs.Laws.Decimals.{decimal_small, decimal_last}
+use Rattle.format.proofs.Laws.Decimals.{decimal_small, decimal_last}
 
 pub one_digit : (n : ℕ) → n < 10 → decimal n ≡ (48 + n % 10) ∷ []
 one_digit n h = let e : n % 10 ≡ n = omega arith in rw e (decimal_small n h)

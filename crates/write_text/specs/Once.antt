@@ -1,11 +1,11 @@
 -- No second answer of the writer of a chart's text; of the writer after the check, on tables that keep the rules.
 use Rattle.std.specs.Prelude.{List, ℕ, ℤ}
 use Rattle.meaning.specs.Once.{Once}
-use Rattle.meaning.specs.Laws.Once.{two}
+use Rattle.meaning.proofs.Laws.Once.{two}
 use Rattle.meaning.specs.Tables.{Tables}
 use Rattle.format.specs.Printed.{chart_text}
 use Rattle.format.specs.TextWritten.{TextWritten}
-use Rattle.format.specs.Laws.TextWritten.{text_written_same}
+use Rattle.format.proofs.Laws.TextWritten.{text_written_same}
 use Rattle.format.specs.declared.Written.{Written}
 use Rattle.write_text.specs.Wrote.{RuledTables}
 use Rattle.tables.specs.Given.{tables_of}

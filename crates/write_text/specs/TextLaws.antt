@@ -3,11 +3,11 @@ use Rattle.std.specs.Prelude.{◌≡◌, refl, ℕ, zero, suc}
 use Rattle.std.proofs.Common.{sym, subst, ap, ap₂, ◌∙◌}
 use mathlib.Core.List.{List, [], ◌∷◌, ◌++◌, flat_map, append_assoc}
 use Rattle.meaning.specs.Rows.{table}
-use Rattle.meaning.specs.Laws.Rows.{flat_map_append}
+use Rattle.meaning.proofs.Laws.Rows.{flat_map_append}
 use Rattle.meaning.specs.Tables.{Tables, move_count, timer_count}
 use Rattle.meaning.specs.Layout.{flip_flop_count}
 use Rattle.meaning.specs.Programs.{Rung, rung_of, timer_rung_of, timer_rungs_from, instructions}
-use Rattle.meaning.specs.Laws.Programs.{program_blocks}
+use Rattle.meaning.proofs.Laws.Programs.{program_blocks}
 use Rattle.meaning.specs.Written.{timer_rung, move_rungs, copy_rungs, output_rungs, program}
 use Rattle.format.specs.Text.{bytes, line, declarations, text}
 use Rattle.format.specs.Printed.{chart_text}

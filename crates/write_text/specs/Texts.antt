@@ -4,7 +4,7 @@ use Rattle.std.proofs.Common.{sym, ◌∙◌, arith, take_at}
 use Rattle.meaning.specs.Tables.{Tables}
 use Rattle.meaning.specs.Check.{verdict}
 use Rattle.meaning.specs.Rules.{Rules}
-use Rattle.meaning.specs.Laws.Verdict.{accepted_exactly}
+use Rattle.meaning.proofs.Laws.Verdict.{accepted_exactly}
 use Rattle.meaning.specs.Calls.{overlaid}
 use Rattle.meaning.specs.declared.Refusal.{Refusal}
 use Rattle.meaning.specs.declared.Refusal.TheVariants as R
@@ -13,7 +13,7 @@ use Rattle.meaning.specs.declared.Verdict.TheVariants.{Accepted, Refused}
 use Rattle.format.specs.Places.{room}
 use Rattle.format.specs.Printed.{chart_text}
 use Rattle.format.specs.Bytes.{Translates}
-use Rattle.format.specs.Laws.Bytes.{chart_translated}
+use Rattle.format.proofs.Laws.Bytes.{chart_translated}
 use Rattle.format.specs.TextWritten.{text_answer, text_left, TextWritten}
 use Rattle.format.specs.declared.Written.{Written}
 use Rattle.format.specs.declared.Written.TheVariants as W

@@ -2,7 +2,7 @@
 use Rattle.std.specs.Prelude.{◌≡◌, refl, ℕ, ◌+◌, ◌/◌, ◌%◌, ◌<◌, length, get_or, take, Bool, true, false, cond, eqb}
 use Rattle.std.proofs.Common.{ap, ap₂, add-one, arith, take-suc}
 use mathlib.Core.List.{List, [], ◌∷◌, ◌++◌, map, flat_map, append-nil}
-use Rattle.meaning.specs.Laws.Rows.{and_l, and_r, flat_map_append}
+use Rattle.meaning.proofs.Laws.Rows.{and_l, and_r, flat_map_append}
 use Rattle.meaning.specs.Programs.{all}
 use Rattle.meaning.specs.declared.Operator.{Operator}
 use Rattle.meaning.specs.declared.Operator.TheVariants.{Ld, Ldn, And, Andn, Or, Close, St, S, R, Cal, LdTime}
@@ -11,7 +11,7 @@ use Rattle.format.specs.declared.Decoded.TheVariants.{Known, Unknown}
 use Rattle.format.specs.Words.{word}
 use Rattle.format.specs.Text.{operator_text, line}
 use Rattle.format.specs.Decode.{operator_fits, operand_of, kept, unpacked, decoded}
-use Rattle.format.specs.Laws.Decode.{decode_word}
+use Rattle.format.proofs.Laws.Decode.{decode_word}
 use Rattle.write_word_lines.specs.Stores.{store_of}
 
 -- any operator by its number k and operand m, likewise

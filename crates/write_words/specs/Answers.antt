@@ -6,9 +6,9 @@ use Rattle.meaning.specs.declared.Refusal.TheVariants.{Text}
 use Rattle.format.specs.Words.{words, AcceptedWords}
 use Rattle.format.specs.Text.{text}
 use Rattle.format.specs.Places.{WordPlace}
-use Rattle.format.specs.Laws.Words.{words_same, place_same}
+use Rattle.format.proofs.Laws.Words.{words_same, place_same}
 use Rattle.format.specs.TextWritten.{TextWritten}
-use Rattle.format.specs.Laws.TextWritten.{text_written_same}
+use Rattle.format.proofs.Laws.TextWritten.{text_written_same}
 use Rattle.format.specs.declared.Written.{Written}
 use Rattle.format.specs.declared.Written.TheVariants.{Refused}
 

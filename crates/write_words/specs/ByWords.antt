@@ -4,7 +4,7 @@ use mathlib.Core.List.{List, ◌++◌, flat_map}
 use Rattle.meaning.specs.Programs.{instructions}
 use Rattle.format.specs.Words.{words}
 use Rattle.format.specs.Text.{bytes, line, declarations, text}
-use Rattle.format.specs.Laws.Passing.{program_instructions}
+use Rattle.format.proofs.Laws.Passing.{program_instructions}
 use Rattle.format.specs.TextWritten.{TextWritten}
 use Rattle.format.specs.declared.Written.{Written}
 use Rattle.grammar_words.specs.Pass.{Holds}

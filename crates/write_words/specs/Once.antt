@@ -1,7 +1,7 @@
 -- No second answer of the writer of text from words.
 use Rattle.std.specs.Prelude.{List, ℕ}
 use Rattle.meaning.specs.Once.{Once}
-use Rattle.meaning.specs.Laws.Once.{two}
+use Rattle.meaning.proofs.Laws.Once.{two}
 use Rattle.format.specs.declared.Written.{Written}
 use Rattle.write_words.specs.Answers.{WordsWritten, words_written_same}
 

@@ -1,5 +1,5 @@
 use mathlib.Core.Path.{refl, sym, ◌∙◌}
-use Rattle.meaning.specs.Laws.Verdict.{accepted_exactly}
+use Rattle.meaning.proofs.Laws.Verdict.{accepted_exactly}
 use Rattle.capi.proofs.splicetuck_state_length.Goals as goal
 
 pub returns-in-Refused : goal.returns-in-Refused

@@ -1,5 +1,5 @@
 use mathlib.Core.Path.{refl, sym, ◌∙◌}
-use Rattle.meaning.specs.Laws.Verdict.{accepted_exactly}
+use Rattle.meaning.proofs.Laws.Verdict.{accepted_exactly}
 use Rattle.chart_calls.specs.Runs.{refused_tables, accepted_tables}
 use Rattle.chart_calls.proofs.run_chart.Goals as goal
 

@@ -6,11 +6,11 @@ use lib.Dec.{eqb}
 use Prim.Native.Nat.{ℕ}
 use mathlib.Core.Bool.{true, ◌&&◌}
 use borrow.Author.Tests.{not-true, not-false, eqb-true}
-use Rattle.meaning.specs.Laws.Rows.{and_l, and_r}
+use Rattle.meaning.proofs.Laws.Rows.{and_l, and_r}
 use Rattle.meaning.specs.Machine.{Valid}
-use Rattle.meaning.specs.Laws.Machine.{after_valid}
+use Rattle.meaning.proofs.Laws.Machine.{after_valid}
 use Rattle.meaning.specs.Lent.{state_passes}
-use Rattle.meaning.specs.Laws.Lent.{lent_valid}
+use Rattle.meaning.proofs.Laws.Lent.{lent_valid}
 use Rattle.chart_scan.specs.Held.{held, TablesGiven}
 use Rattle.chart_state_read.specs.CodesLaws.{right_length, codes_given}
 use Rattle.chart_lent.specs.RunLaws.{refused_state, refused_scans, done}

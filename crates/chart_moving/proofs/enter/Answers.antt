@@ -3,7 +3,7 @@ use mathlib.Core.Path.{sym, ◌∙◌}
 use Prim.Native.Nat.{◌<◌}
 use borrow.Author.Tests.{lt-ltb, le-ltb}
 use Rattle.meaning.specs.Tables.{state_count, move_count}
-use Rattle.meaning.specs.Laws.Machine.{target_known}
+use Rattle.meaning.proofs.Laws.Machine.{target_known}
 use Rattle.chart_moving.specs.EnterLaws.{moved_history, moved_plain}
 use Rattle.tables.specs.Given.{move_count_lem}
 use Rattle.chart_moving.proofs.enter.Goals as goal

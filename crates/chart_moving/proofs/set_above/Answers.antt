@@ -3,7 +3,7 @@ use mathlib.Core.Path.{◌≡◌, refl, ◌∙◌}
 use Prim.Native.Nat.{suc, ◌-◌, ◌+◌}
 use borrow.Author.Tests.{eq-eqb, ne_eqb}
 use Rattle.chart_moving.specs.Moves.{set_above}
-use Rattle.meaning.specs.Laws.Tree.{super_lt}
+use Rattle.meaning.proofs.Laws.Tree.{super_lt}
 use Rattle.chart_moving.proofs.set_above.Goals as goal
 
 pub loop-k-init : goal.loop-k-init

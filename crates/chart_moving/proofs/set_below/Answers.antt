@@ -3,12 +3,12 @@ use mathlib.Core.Path.{◌≡◌, refl, sym, ◌∙◌}
 use mathlib.Core.Logic.{inl, inr}
 use Prim.Native.Nat.{ℕ, suc, ◌<◌, ◌-◌, ◌+◌}
 use borrow.Author.Tests.{eq-eqb, ne_eqb}
-use Rattle.meaning.specs.Laws.Rows.{which}
+use Rattle.meaning.proofs.Laws.Rows.{which}
 use Rattle.meaning.specs.Tables.{Tables, state_count, initial}
 use Rattle.meaning.specs.Hierarchy.{is_leaf}
 use Rattle.meaning.specs.Rules.{Rules}
 use Rattle.chart_moving.specs.Moves.{set_below}
-use Rattle.meaning.specs.Laws.Tree.{initial_leaf, initial_sub}
+use Rattle.meaning.proofs.Laws.Tree.{initial_leaf, initial_sub}
 use Rattle.chart_moving.proofs.set_below.Goals as goal
 
 -- an initial sub-state is a state

@@ -5,9 +5,9 @@ use Prim.Native.Nat.{ℕ, suc, ◌+◌}
 use lib.Dec.{eqb, ltb}
 use borrow.Author.Tests.{eq-eqb, ne_eqb, lt-ltb, le-ltb, ltb-true}
 use native.Mathlib.Decide.{ℕ_discrete}
-use Rattle.meaning.specs.Laws.Rows.{same_test}
+use Rattle.meaning.proofs.Laws.Rows.{same_test}
 use Rattle.chart_paths.specs.Words.{expired_at}
-use Rattle.meaning.specs.Laws.Bits.{no_bit}
+use Rattle.meaning.proofs.Laws.Bits.{no_bit}
 use Rattle.chart_paths.proofs.expired_of.Goals as goal
 
 -- the bit of row j, once that of row i is set if e i

@@ -6,7 +6,7 @@ use borrow.Author.Count.{below_more}
 use native.Mathlib.Numerals.{add-one}
 use Rattle.meaning.specs.Tables.{move_count}
 use Rattle.meaning.specs.Hierarchy.{up}
-use Rattle.meaning.specs.Laws.Tree.{up_le}
+use Rattle.meaning.proofs.Laws.Tree.{up_le}
 use Rattle.tables.specs.Given.{move_count_lem}
 use Rattle.chart_scan.specs.Choice.{read, last_holding}
 use Rattle.chart_scan.specs.LinkLaws.{root_stays, found_chosen, none_on_path}

@@ -1,7 +1,7 @@
 -- The moves pass with as many inputs and timers as there may be, and what they need is the same then.
 use mathlib.Core.Path.{refl, ◌∙◌}
 use Rattle.meaning.specs.Tables.{move_count}
-use Rattle.meaning.specs.Laws.Overlap.{place_known}
+use Rattle.meaning.proofs.Laws.Overlap.{place_known}
 use Rattle.check_needs.specs.Words.{needs_at}
 use Rattle.check_needs.specs.WordsLaws.{hold_words_lem}
 use Rattle.chart_scan.specs.Choice.{read}

@@ -1,6 +1,6 @@
 use native.Mathlib.Omega.{arith}
 use mathlib.Core.Path.{sym, subst}
-use Rattle.meaning.specs.Laws.Rows.{get_d_equal}
+use Rattle.meaning.proofs.Laws.Rows.{get_d_equal}
 use Rattle.check_pairing.specs.Words.{PairedWords}
 use Rattle.chart_scan.specs.Held.{Made}
 use Rattle.chart_scan.specs.StepLaws.{longest_made, rules_tree}

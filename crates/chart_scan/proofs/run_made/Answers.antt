@@ -4,7 +4,7 @@ use Prim.Native.Nat.{◌≤◌, ◌-◌}
 use lib.ListN.{length, get_or, set, take}
 use lib.Seq.{take_all}
 use Rattle.meaning.specs.Machine.{seen_at_leaf, trace, state_after_scans, Valid}
-use Rattle.meaning.specs.Laws.Machine.{valid_sound, step_valid, after_valid}
+use Rattle.meaning.proofs.Laws.Machine.{valid_sound, step_valid, after_valid}
 use Rattle.chart_paths.specs.WalkLaws.{walk_active, leaf_known}
 use Rattle.chart_scan.specs.Held.{held}
 use Rattle.chart_scan.specs.StepLaws.{ran_shown}

@@ -8,9 +8,9 @@ use Rattle.meaning.specs.Tables.{state_count, timer_count}
 use Rattle.meaning.specs.Hierarchy.{paired}
 use Rattle.meaning.specs.Literals.{input_on}
 use Rattle.meaning.specs.Machine.{active_leaf, state_after_step}
-use Rattle.meaning.specs.Laws.Machine.{SoundMemory, valid_sound, step_valid}
+use Rattle.meaning.proofs.Laws.Machine.{SoundMemory, valid_sound, step_valid}
 use Rattle.chart_paths.specs.WalkLaws.{leaf_known}
-use Rattle.meaning.specs.Laws.Bits.{and_bit}
+use Rattle.meaning.proofs.Laws.Bits.{and_bit}
 use Rattle.chart_scan.specs.Held.{held}
 use Rattle.chart_timers.specs.Times.{value_grown}
 use Rattle.chart_scan.specs.StepLaws.{chosen_on, step_held}

@@ -8,7 +8,7 @@ use Rattle.meaning.specs.Tables.{state_count, timer_count}
 use Rattle.meaning.specs.Hierarchy.{paired}
 use Rattle.meaning.specs.Literals.{input_on}
 use Rattle.meaning.specs.Machine.{active_leaf}
-use Rattle.meaning.specs.Laws.Machine.{SoundMemory}
+use Rattle.meaning.proofs.Laws.Machine.{SoundMemory}
 use Rattle.meaning.specs.Lent.{lent_length, lent_memory, state_of, state_passes}
 use Rattle.check_pairing.specs.Words.{PairedWords}
 use Rattle.chart_scan.specs.StepLaws.{rules_tree}

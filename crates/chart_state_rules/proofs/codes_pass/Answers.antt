@@ -5,7 +5,7 @@ use Prim.Native.Nat.{◌-◌}
 use lib.Dec.{ltb}
 use borrow.Author.Tests.{lt-ltb, le-ltb}
 use borrow.Author.Count.{below_more}
-use Rattle.meaning.specs.Laws.Rows.{every_intro, every_no}
+use Rattle.meaning.proofs.Laws.Rows.{every_intro, every_no}
 use Rattle.meaning.specs.Machine.{remembered}
 use Rattle.chart_state_rules.proofs.codes_pass.Goals as goal
 

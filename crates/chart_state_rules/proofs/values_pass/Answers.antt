@@ -6,7 +6,7 @@ use mathlib.Core.List.{List}
 use lib.ListN.{length, get_or}
 use borrow.Author.Tests.{not-true, not-false}
 use borrow.Author.Count.{below_more}
-use Rattle.meaning.specs.Laws.Rows.{every_intro, every_no}
+use Rattle.meaning.proofs.Laws.Rows.{every_intro, every_no}
 use Rattle.meaning.specs.Literals.{input_on}
 use Rattle.chart_state_rules.specs.Values.{value_passes, row_passes}
 use Rattle.chart_state_rules.proofs.values_pass.Goals as goal

@@ -5,7 +5,7 @@ use mathlib.Core.List.{◌++◌}
 use lib.ListN.{length, take}
 use lib.Seq.{take_all}
 use Rattle.meaning.specs.Tables.{timer_count}
-use Rattle.meaning.specs.Laws.Machine.{valid_sound}
+use Rattle.meaning.proofs.Laws.Machine.{valid_sound}
 use Rattle.chart_scan.specs.Held.{held}
 use Rattle.meaning.specs.Lent.{lent_length, lent_of}
 use Rattle.chart_state_read.specs.CodesLaws.{codes_lent}

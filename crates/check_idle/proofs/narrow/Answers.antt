@@ -3,7 +3,7 @@ use native.Mathlib.Numerals.{add-one}
 use mathlib.Core.Path.{◌≡◌, refl, sym, ◌∙◌}
 use lib.ListN.{get_or}
 use lib.Dec.{eqb}
-use Rattle.meaning.specs.Laws.Rows.{some_more}
+use Rattle.meaning.proofs.Laws.Rows.{some_more}
 use Rattle.meaning.specs.Rows.{some}
 use Rattle.meaning.specs.Hierarchy.{up, at_or_above}
 use Rattle.meaning.specs.Literals.{input_on}

@@ -4,7 +4,7 @@ use lib.ListN.{get_or}
 use lib.Dec.{eqb}
 use borrow.Author.Tests.{eq-eqb, ne_eqb}
 use Rattle.meaning.specs.Literals.{input_on}
-use Rattle.meaning.specs.Laws.Rules.{leaf_initial}
+use Rattle.meaning.proofs.Laws.Rules.{leaf_initial}
 use Rattle.check_idle.specs.Leaves.{narrow_not, narrow_leaf, running_at}
 use Rattle.check_idle.proofs.narrow_leaf.Goals as goal
 

@@ -1,7 +1,7 @@
 -- An unused place names nothing, and ends the literals.
 use mathlib.Core.Path.{refl, sym}
 use mathlib.Core.Bool.{true, false, beq}
-use Rattle.meaning.specs.Laws.Rows.{or_r}
+use Rattle.meaning.proofs.Laws.Rows.{or_r}
 use Rattle.check_literals.specs.PlaceLaws.{thing_unused}
 use Rattle.check_literals.proofs.end.Goals as goal
 

@@ -2,7 +2,7 @@ use native.Mathlib.Omega.{arith}
 use mathlib.Core.Path.{ap}
 use mathlib.Core.Bool.{not}
 use Rattle.meaning.specs.Literals.{input_on}
-use Rattle.meaning.specs.Laws.Bits.{or_bit}
+use Rattle.meaning.proofs.Laws.Bits.{or_bit}
 use Rattle.check_literals.proofs.free.Goals as goal
 
 pub returns-then-ended : goal.returns-then-ended

@@ -2,7 +2,7 @@ use native.Mathlib.Omega.{arith}
 use mathlib.Core.Path.{sym, ◌∙◌}
 use lib.IntN.{nat_abs}
 use Rattle.meaning.specs.Tables.{literal}
-use Rattle.meaning.specs.Laws.Needs.{size_as}
+use Rattle.meaning.proofs.Laws.Needs.{size_as}
 use Rattle.meaning.specs.declared.Kind.TheVariants.{Input, Timer}
 use Rattle.check_literals.specs.PlaceLaws.{unused_passes, unknown_fails, input_passes, input_fails, timer_passes_lem, timer_fails}
 use Rattle.check_literals.proofs.kind_passes.Goals as goal

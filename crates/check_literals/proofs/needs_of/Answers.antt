@@ -8,7 +8,7 @@ use mir.Facts.{to_z-of_z}
 use borrow.Author.Rules.{sfits_of}
 use borrow.Author.Count.{below_none, below_more}
 use Rattle.meaning.specs.Rows.{some}
-use Rattle.meaning.specs.Laws.Rows.{every_intro, every_no}
+use Rattle.meaning.proofs.Laws.Rows.{every_intro, every_no}
 use Rattle.meaning.specs.Literals.{kind_of, wanted}
 use Rattle.meaning.specs.Check.{place_passes, literal_passes}
 use Rattle.check_literals.specs.PlaceLaws.{one_more}

@@ -4,7 +4,7 @@ use native.Mathlib.Nat.{zero-add}
 use mathlib.Core.Path.{sym, ◌∙◌}
 use Prim.Native.Nat.{suc, ◌+◌, ◌<◌}
 use native.Mathlib.Decide.{dec_le, ℕ_discrete}
-use Rattle.meaning.specs.Laws.Rows.{least_at, least_none}
+use Rattle.meaning.proofs.Laws.Rows.{least_at, least_none}
 use Rattle.meaning.specs.Once.{Words64}
 use Rattle.meaning.specs.Check.{overlaps, earlier}
 use Rattle.check_needs.specs.WordsLaws.{apart_from, apart_found}

@@ -4,11 +4,11 @@ use mathlib.Core.Path.{◌≡◌, refl, ap, ◌∙◌}
 use Prim.Native.Nat.{◌/◌}
 use lib.ListN.{length}
 use Rattle.meaning.specs.Rows.{some}
-use Rattle.meaning.specs.Laws.Rows.{some_more}
+use Rattle.meaning.proofs.Laws.Rows.{some_more}
 use Rattle.meaning.specs.Tables.{pair_count}
 use Rattle.meaning.specs.Literals.{input_on}
 use Rattle.check_pairing.specs.Words.{row_at}
-use Rattle.meaning.specs.Laws.Bits.{no_bit}
+use Rattle.meaning.proofs.Laws.Bits.{no_bit}
 use Rattle.check_pairing.proofs.own_words.Goals as goal
 
 pub loop-i-init : goal.loop-i-init

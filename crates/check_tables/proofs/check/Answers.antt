@@ -2,12 +2,12 @@ use Rattle.check_tables.specs.Verdicts.{check_of, table_checks, move_checks, fli
 use Rattle.check_idle.specs.Leaves.{EarlierPassed}
 use Rattle.check_tree.specs.Falling.{falling}
 use Rattle.meaning.specs.Rules.{HierarchyRule}
-use Rattle.meaning.specs.Laws.Rules.{hierarchy_tells}
+use Rattle.meaning.proofs.Laws.Rules.{hierarchy_tells}
 use Rattle.check_tables.specs.declared.Rule.TheVariants as L
 use Rattle.tables.specs.Given.{tables_of}
 use Rattle.meaning.specs.Check.{size_passes, verdict_of}
 use Rattle.meaning.specs.Tables.{Tables, state_count, move_count}
-use Rattle.meaning.specs.Laws.Rows.{and_l, and_r}
+use Rattle.meaning.proofs.Laws.Rows.{and_l, and_r}
 use borrow.Author.Tests.{leb-true, eqb-true}
 use mathlib.Core.List.{[], ◌∷◌, ◌++◌}
 use mathlib.Core.Bool.{true, false}

@@ -2,7 +2,7 @@ use Rattle.check_tables.specs.Verdicts.{check_of, need_checks, front_decides, la
 use Rattle.check_idle.specs.Leaves.{Sources, source_known}
 use Rattle.meaning.specs.Tables.{Tables}
 use Rattle.meaning.specs.Check.{verdict_of}
-use Rattle.meaning.specs.Laws.Rules.{move_tells}
+use Rattle.meaning.proofs.Laws.Rules.{move_tells}
 use Rattle.check_tables.specs.declared.Rule.TheVariants as L
 use Rattle.tables.specs.Given.{tables_of, move_count_lem}
 use native.Mathlib.Omega.{arith}

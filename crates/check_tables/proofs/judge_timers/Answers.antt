@@ -1,7 +1,7 @@
 use native.Mathlib.Omega.{arith}
 use Prim.Native.Nat.{ℕ}
 use lib.ListN.{get_or-replicate}
-use Rattle.meaning.specs.Laws.Rows.{get_d_equal}
+use Rattle.meaning.proofs.Laws.Rows.{get_d_equal}
 use Rattle.tables.specs.Given.{state_count_lem}
 use Rattle.check_tables.proofs.judge_timers.Goals as goal
 

@@ -1,5 +1,5 @@
 use Rattle.meaning.specs.Hierarchy.{up, at_or_above}
-use Rattle.meaning.specs.Laws.Rows.{some_intro, some_none}
+use Rattle.meaning.proofs.Laws.Rows.{some_intro, some_none}
 use lib.Dec.{eqb}
 use borrow.Author.Tests.{eq-eqb, ne_eqb}
 use borrow.Author.Count.{below_none, below_more}

@@ -4,7 +4,7 @@ use Prim.Native.Nat.{◌*◌, ◌≤◌, ◌<◌}
 use native.Mathlib.Omega.{arith}
 use lib.ListN.{length, length-take}
 use Rattle.csv_field.specs.Field.{most64}
-use Rattle.format.specs.Laws.Measured.{empty_part}
+use Rattle.format.proofs.Laws.Measured.{empty_part}
 use Rattle.csv_file.specs.ReadLaws.{count_few, read_refused, read_cramped, read_passed}
 use borrow.Author.Rules.{rules}
 use Rattle.csv_file.proofs.read_records.Goals as goal

@@ -1,6 +1,6 @@
 use mathlib.Core.Path.{sym, ◌∙◌}
 use Rattle.csv_records.specs.Automaton.{field_end, field_emits, taken, numbers_of}
-use Rattle.meaning.specs.Laws.Rows.{and_r}
+use Rattle.meaning.proofs.Laws.Rows.{and_r}
 use Rattle.csv_records.specs.StepLaws.{return_emits}
 use lib.Dec.{eqb}
 use Rattle.csv_value.specs.Decimals.{returned}

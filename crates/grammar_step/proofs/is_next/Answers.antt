@@ -4,7 +4,7 @@ use Prim.Native.Nat.{ℕ, suc, ◌-◌}
 use native.Mathlib.Omega.{arith}
 use lib.Dec.{eqb}
 use borrow.Author.Tests.{eqb-true, eqb-false, eq-eqb, ne_eqb}
-use Rattle.meaning.specs.Laws.Rows.{which}
+use Rattle.meaning.proofs.Laws.Rows.{which}
 use Rattle.grammar_step.proofs.is_next.Goals as goal
 
 pred-eqb : (n t : ℕ) → n ≢ 0 → eqb (n - 1) t ≡ eqb n (suc t)

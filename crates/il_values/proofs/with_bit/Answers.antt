@@ -1,4 +1,4 @@
-use Rattle.meaning.specs.Laws.Bits.{weight}
+use Rattle.meaning.proofs.Laws.Bits.{weight}
 use Rattle.il_values.specs.Bits.{bit_low, number_on}
 use Rattle.il_values.specs.Value.{with_bit}
 use borrow.Author.Tests.{lt-ltb, le-ltb}

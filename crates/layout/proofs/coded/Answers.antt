@@ -1,8 +1,8 @@
 use Rattle.meaning.specs.Rows.{count}
 use Rattle.meaning.specs.Tables.{Tables, initial}
 use Rattle.meaning.specs.Hierarchy.{sub_state}
-use Rattle.meaning.specs.Laws.Hierarchy.{sub_state_tells}
-use Rattle.meaning.specs.Laws.Rows.{same_test}
+use Rattle.meaning.proofs.Laws.Hierarchy.{sub_state_tells}
+use Rattle.meaning.proofs.Laws.Rows.{same_test}
 use Rattle.meaning.specs.Layout.{other_sub_state, code}
 use Rattle.meaning.specs.Lent.{coded}
 use Prim.Native.Nat.{ℕ, suc, ◌-◌}

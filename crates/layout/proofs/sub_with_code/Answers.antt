@@ -1,6 +1,6 @@
 use Rattle.tables.specs.Given.{state_count_lem}
 use Rattle.meaning.specs.Rows.{count}
-use Rattle.meaning.specs.Laws.Rows.{least_at, least_none}
+use Rattle.meaning.proofs.Laws.Rows.{least_at, least_none}
 use Rattle.meaning.specs.Tables.{state_count}
 use Rattle.meaning.specs.Lent.{coded}
 use Prim.Native.Nat.{◌-◌}

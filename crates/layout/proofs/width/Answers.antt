@@ -1,5 +1,5 @@
 use Rattle.meaning.specs.Layout.{significant_in, significant, width}
-use Rattle.meaning.specs.Laws.Layout.{width_leading}
+use Rattle.meaning.proofs.Laws.Layout.{width_leading}
 use Prim.Native.Nat.{◌-◌}
 use lib.Count.{leading_le}
 use mathlib.Core.Path.{◌≡◌}

@@ -7,7 +7,7 @@ use native.Mathlib.Numerals.{add-one}
 use native.Mathlib.Omega.{arith}
 use lib.ListN.{length}
 use Rattle.meaning.specs.Rows.{table}
-use Rattle.meaning.specs.Laws.Rows.{rows_snoc}
+use Rattle.meaning.proofs.Laws.Rows.{rows_snoc}
 use Rattle.meaning.specs.Tables.{move_count}
 use Rattle.tables.specs.Given.{move_count_lem}
 use Rattle.format.specs.Text.{line}

@@ -2,7 +2,7 @@ use mathlib.Core.Path.{◌≡◌}
 use mathlib.Core.List.{◌++◌}
 use native.Mathlib.Omega.{arith}
 use lib.ListN.{length, length-take}
-use Rattle.format.specs.Laws.Measured.{empty_part}
+use Rattle.format.proofs.Laws.Measured.{empty_part}
 use Rattle.read_text.specs.ReadLaws.{read_cramped, read_passed, read_stopped}
 use borrow.Author.Rules.{rules}
 use Rattle.read_text.proofs.read.Goals as goal

@@ -1,7 +1,7 @@
 use native.Mathlib.Omega.{arith}
 use Prim.Native.Nat.{◌-◌}
 use borrow.Author.Tests.{le-leb, lt-leb}
-use Rattle.meaning.specs.Laws.Bits.{weight}
+use Rattle.meaning.proofs.Laws.Bits.{weight}
 use Rattle.slices.specs.Numbers.{with_number}
 use Rattle.slices.proofs.with_number.Goals as goal
 

@@ -4,7 +4,7 @@ use native.Mathlib.Omega.{arith}
 use lib.ListN.{length-set}
 use Rattle.meaning.specs.Tables.{super_state}
 use Rattle.meaning.specs.Hierarchy.{up}
-use Rattle.meaning.specs.Laws.Tree.{shallow}
+use Rattle.meaning.proofs.Laws.Tree.{shallow}
 use Rattle.write_bits.specs.GroupLaws.{root_below, risen_depth, risen_path, risen_more}
 use Rattle.write_bits.proofs.rise.Goals as goal
 

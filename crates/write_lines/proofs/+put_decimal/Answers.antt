@@ -1,5 +1,5 @@
 use native.Mathlib.Omega.{arith}
-use Rattle.format.specs.Laws.Decimals.{decimal_small, decimal_last}
+use Rattle.format.proofs.Laws.Decimals.{decimal_small, decimal_last}
 use Rattle.write_lines.specs.Put.{put_put}
 use Rattle.write_lines.proofs.+put_decimal.Goals as goal
 

@@ -5,7 +5,7 @@ use native.Mathlib.Omega.{arith}
 use mathlib.Core.List.{[], ◌∷◌}
 use lib.ListN.{length, take, get_or, length-take, length-set, set}
 use lib.Seq.{take-suc, take_all}
-use Rattle.meaning.specs.Laws.Rows.{sets_append}
+use Rattle.meaning.proofs.Laws.Rows.{sets_append}
 use Rattle.write_lines.proofs.fill.Goals as goal
 
 pub loop-i-init : goal.loop-i-init

@@ -3,8 +3,8 @@ use mathlib.Core.Bool.{true, false}
 use mathlib.Core.List.{◌++◌}
 use native.Mathlib.Omega.{arith}
 use Rattle.meaning.specs.Tables.{source, target, mark}
-use Rattle.meaning.specs.Laws.Machine.{target_known}
-use Rattle.meaning.specs.Laws.Tests.{source_known}
+use Rattle.meaning.proofs.Laws.Machine.{target_known}
+use Rattle.meaning.proofs.Laws.Tests.{source_known}
 use Rattle.meaning.specs.Programs.{chain_of}
 use Rattle.meaning.specs.Written.{state_tests, literal_tests, chain}
 use Rattle.write_bits.specs.SentLaws.{put_lines, put_nil, sent_sent, chain_put, state_tests_lem}

@@ -4,7 +4,7 @@ use mathlib.Core.List.{flat_map}
 use native.Mathlib.Numerals.{add-one}
 use native.Mathlib.Omega.{arith}
 use Rattle.meaning.specs.Rows.{table}
-use Rattle.meaning.specs.Laws.Rows.{rows_snoc}
+use Rattle.meaning.proofs.Laws.Rows.{rows_snoc}
 use Rattle.format.specs.Text.{block_line}
 use Rattle.write_lines.specs.Fit.{fit_fit, fit_none}
 use Rattle.write_spelling.proofs.put_blocks.Goals as goal

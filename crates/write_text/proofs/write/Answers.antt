@@ -1,5 +1,5 @@
 use mathlib.Core.Path.{refl, sym, ◌∙◌}
-use Rattle.meaning.specs.Laws.Verdict.{accepted_exactly}
+use Rattle.meaning.proofs.Laws.Verdict.{accepted_exactly}
 use Rattle.write_text.specs.Texts.{refused_tables, accepted_tables}
 use borrow.Author.Rules.{rules}
 use Rattle.write_text.proofs.write.Goals as goal

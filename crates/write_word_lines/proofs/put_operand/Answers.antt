@@ -2,7 +2,7 @@ use native.Mathlib.Omega.{arith}
 use mathlib.Core.List.{append_assoc}
 use Rattle.format.specs.Text.{line, operand_text}
 use Rattle.format.specs.Decode.{operand_of}
-use Rattle.format.specs.Laws.Operands.{operand_mx, operand_ix, operand_qx, operand_timer_q, operand_timer_in, operand_timer_pt, operand_timer, operand_none}
+use Rattle.format.proofs.Laws.Operands.{operand_mx, operand_ix, operand_qx, operand_timer_q, operand_timer_in, operand_timer_pt, operand_timer, operand_none}
 use Rattle.write_word_lines.proofs.put_operand.Goals as goal
 
 pub returns-in-2000 : goal.returns-in-2000
