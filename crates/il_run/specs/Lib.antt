@@ -1,5 +1,8 @@
 pub mod Row
 pub mod RowLaws
+pub mod Body
+pub mod Lent
+pub mod LocalRow
 pub mod Once
 pub mod Runs
 pub mod RunLaws
