@@ -17,17 +17,17 @@ then_of unreachable = skip
 then_of (call_v c t xs d) = skip
 then_of (lend_static p t k) = skip
 
-abbrev pub rest_of : Body → Body
-rest_of (seq a b) = b
-rest_of (cond c a b) = skip
-rest_of skip = skip
-rest_of (assign p v) = skip
-rest_of (block b) = skip
-rest_of (loop b) = skip
-rest_of (switch c xs) = skip
-rest_of (exit n) = skip
-rest_of return = skip
-rest_of (call f xs d) = skip
-rest_of unreachable = skip
-rest_of (call_v c t xs d) = skip
-rest_of (lend_static p t k) = skip
+abbrev pub rest_of_body : Body → Body
+rest_of_body (seq a b) = b
+rest_of_body (cond c a b) = skip
+rest_of_body skip = skip
+rest_of_body (assign p v) = skip
+rest_of_body (block b) = skip
+rest_of_body (loop b) = skip
+rest_of_body (switch c xs) = skip
+rest_of_body (exit n) = skip
+rest_of_body return = skip
+rest_of_body (call f xs d) = skip
+rest_of_body unreachable = skip
+rest_of_body (call_v c t xs d) = skip
+rest_of_body (lend_static p t k) = skip
