@@ -1,6 +1,6 @@
 -- How long a page is, so that one buffer is room enough for every page.
 use Rattle.std.specs.Prelude.{◌≡◌, refl, Bool, true, false, cond, ◌&&◌, ◌||◌, eqb, nat_abs, length}
-use Rattle.std.proofs.Common.{sym, ap, ◌∙◌, inl, inr, eq-eqb, ne_eqb}
+use Rattle.std.proofs.Common.{ap, ◌∙◌, eq-eqb, ne_eqb}
 use mathlib.Core.List.{List, [], ◌∷◌, ◌++◌, flat_map, append-nil}
 use Prim.Native.Nat.{ℕ, zero, suc, ◌+◌, ◌*◌, ◌/◌, ◌%◌, ◌≤◌, ◌<◌}
 use Rattle.std.proofs.Math.Decide.{dec_le, ℕ_discrete}
@@ -8,9 +8,9 @@ use native.Mathlib.Omega.{arith}
 use Rattle.meaning.specs.Literals.{kind_of}
 use Rattle.std.proofs.Math.ListN.{length-append}
 use Rattle.meaning.specs.Rows.{table, some}
-use Rattle.meaning.proofs.Laws.Rows.{which, flat_map_append, some_more}
+use Rattle.meaning.proofs.Laws.Rows.{flat_map_append, some_more}
 use Rattle.meaning.specs.Refusals.{number_of, place_of}
-use Rattle.meaning.specs.Tables.{Tables, most_inputs, most_timers, most_moves, literal_places, move_count, source, target, super_state, literal}
+use Rattle.meaning.specs.Tables.{Tables, most_inputs, most_timers, most_moves, move_count, source, target, super_state, literal}
 use Rattle.meaning.specs.Hierarchy.{up, levels, depth}
 use Rattle.meaning.specs.Needs as N
 use Rattle.meaning.specs.Check.{earlier, verdict}
@@ -21,7 +21,6 @@ use Rattle.format.specs.Text.{bytes, decimal, operand_text, line}
 use Rattle.format.proofs.Laws.Decimals.{decimal_few, decimal_small, decimal_last}
 use Rattle.format.specs.Printed.{refusal_line}
 use Rattle.format.specs.NeedsTable.{names_of, thing_names, spaced, things_text, upward, needs_line, needs_table, overlap_line, needs_page}
-use Rattle.meaning.specs.declared.Refusal.{Refusal}
 use Rattle.meaning.specs.declared.Verdict.{Verdict}
 use Rattle.meaning.specs.declared.Verdict.TheVariants.{Accepted, Refused}
 use Rattle.print_lines.specs.Results.{refusal_few}

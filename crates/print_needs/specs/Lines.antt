@@ -1,6 +1,6 @@
 -- The lines of a page by their parts, as the writers write them.
 use Rattle.std.specs.Prelude.{◌≡◌, refl, ℕ, suc, ◌+◌, ℤ}
-use Rattle.std.proofs.Common.{sym, ap, ◌∙◌, arith}
+use Rattle.std.proofs.Common.{ap, ◌∙◌, arith}
 use mathlib.Core.List.{List, [], ◌∷◌, ◌++◌, flat_map, append_assoc, append-nil}
 use Rattle.meaning.specs.Rows.{table}
 use Rattle.meaning.proofs.Laws.Rows.{flat_map_append, table_snoc}

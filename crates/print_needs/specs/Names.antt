@@ -1,5 +1,5 @@
 -- Names written one after the other, with a space between two: what a cursor carries, and the laws of it.
-use Rattle.std.specs.Prelude.{◌≡◌, refl, Bool, true, false, cond, ◌||◌, ℕ, zero, suc, ◌+◌, ◌≤◌, ◌<◌, length}
+use Rattle.std.specs.Prelude.{◌≡◌, refl, Bool, true, false, cond, ◌||◌, ℕ, zero, suc, ◌+◌, ◌≤◌, length}
 use Rattle.std.proofs.Common.{sym, ap, ◌∙◌, true≢false, arith}
 use Rattle.std.proofs.Math.Bool.{or-true, or-false}
 use Rattle.std.proofs.lemmas.Bool.{false≢true}
@@ -14,7 +14,7 @@ use Rattle.format.specs.Text.{operand_text}
 use Rattle.format.specs.NeedsTable.{names_of, thing_names, spaced, things_text}
 use Rattle.write_lines.specs.Put.{BytesPut, put_put, put_none}
 use Rattle.check_needs.specs.declared.ThingWords.{ThingWords}
-use Rattle.check_needs.specs.Words.{WordBits, InWords, set_of}
+use Rattle.check_needs.specs.Words.{InWords, set_of}
 use Rattle.print_needs.specs.declared.NameCursor.{NameCursor}
 
 -- a space before each

@@ -7,7 +7,6 @@ use native.Mathlib.Omega.{arith}
 use Rattle.meaning.specs.Literals.{input_on}
 use Rattle.meaning.specs.declared.Operand.TheVariants.{Ix}
 use Rattle.format.specs.Text.{operand_text}
-use Rattle.write_lines.specs.Put.{put_length}
 use Rattle.print_needs.specs.Names.{names_names, names_more, names_none, no_name}
 use Rattle.print_needs.proofs.put_inputs.Goals as goal
 

@@ -2,7 +2,7 @@
 use borrow.Author.Rules.{rules}
 use mathlib.Core.Path.{◌≡◌, refl, ◌∙◌}
 use mathlib.Core.List.{flat_map}
-use Prim.Native.Nat.{◌+◌, ◌-◌, ◌<◌}
+use Prim.Native.Nat.{◌+◌, ◌<◌}
 use native.Mathlib.Numerals.{add-one}
 use native.Mathlib.Omega.{arith}
 use lib.ListN.{length}
@@ -12,7 +12,7 @@ use Rattle.meaning.specs.Tables.{move_count}
 use Rattle.tables.specs.Given.{move_count_lem}
 use Rattle.format.specs.Text.{line}
 use Rattle.format.specs.NeedsTable.{needs_line, needs_table}
-use Rattle.write_lines.specs.Put.{put_put, put_none, put_length}
+use Rattle.write_lines.specs.Put.{put_put, put_none}
 use Rattle.print_needs.proofs.put_table.Goals as goal
 
 pub loop-i-init : goal.loop-i-init

@@ -1,5 +1,4 @@
 -- A name where the timer is in the set, else nothing.
-use borrow.Author.Tests.{not-true, not-false}
 use Rattle.print_needs.specs.Names.{one_name, no_name}
 use Rattle.write_lines.specs.Put.{put_put}
 use Rattle.format.specs.Text.{operand_text}

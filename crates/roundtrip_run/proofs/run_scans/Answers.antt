@@ -1,8 +1,7 @@
 use mathlib.Core.Path.{refl, ◌∙◌}
-use Prim.Native.Nat.{◌-◌, ◌<◌}
+use Prim.Native.Nat.{◌<◌}
 use native.Mathlib.Omega.{arith}
 use lib.ListN.{length}
-use borrow.Author.Rules.{rules}
 use Rattle.roundtrip_run.specs.Going.{going_start, going_on, going_end}
 use Rattle.roundtrip_run.proofs.run_scans.Goals as goal
 

@@ -3,7 +3,6 @@ use Rattle.roundtrip_run.specs.Going.{part_cleared}
 use native.Mathlib.Omega.{arith}
 use lib.ListN.{length-take, length-replicate}
 use Rattle.layout.specs.LaidLaws.{total_is}
-use borrow.Author.Rules.{rules}
 use Rattle.roundtrip_run.proofs.run_words.Goals as goal
 
 pub returns-then-total-gt-FLIP_FLOPS : goal.returns-then-total-gt-FLIP_FLOPS
