@@ -1,15 +1,14 @@
 -- How long the lines are that stand beside the text, so that one buffer is room enough for whatever is printed.
-use Rattle.std.specs.Prelude.{◌≡◌, refl, ℕ, suc, ◌+◌, ◌*◌, ◌≤◌, List, [], ◌∷◌, ◌++◌, map, length}
+use Rattle.std.specs.Prelude.{◌≡◌, refl, ℕ, suc, ◌*◌, ◌≤◌, List, [], ◌∷◌, ◌++◌, map, length}
 use Rattle.std.proofs.Common.{ap, sym, ◌∙◌, arith, length-append, leb-true}
 use Rattle.std.proofs.lemmas.List.{length-map}
-use Rattle.meaning.specs.Refusals.{number_of, place_of}
 use Rattle.meaning.specs.Tables.{Tables}
 use Rattle.meaning.specs.Check.{checks, verdict_of, verdict}
 use Rattle.meaning.specs.Machine.{Seen, State, state_after_step, start_state, trace}
 use Rattle.meaning.specs.declared.Refusal.{Refusal}
 use Rattle.meaning.specs.declared.Verdict.{Verdict}
 use Rattle.meaning.specs.declared.Verdict.TheVariants.{Accepted, Refused}
-use Rattle.format.specs.Text.{bytes, decimal}
+use Rattle.format.specs.Text.{decimal}
 use Rattle.format.proofs.Laws.Decimals.{decimal_few}
 use Rattle.format.specs.Printed.{chart_text, room_check, scan_lines, refusal_line, most_text}
 use Rattle.check_tables.specs.Verdicts.{is_refused, go, passed}

@@ -10,7 +10,7 @@ use Rattle.std.proofs.lemmas.List.Edits.{sets, sets-eq}
 use Rattle.std.proofs.Math.Seq.{length-sets}
 use Rattle.meaning.proofs.Laws.Rows.{which, and_l, and_r}
 use Rattle.meaning.specs.Tables.{Tables, state_row, move_row, pair_row}
-use Rattle.meaning.specs.Check.{Check, checks, first_failing, verdict_of, verdict}
+use Rattle.meaning.specs.Check.{Check, first_failing, verdict_of, verdict}
 use Rattle.meaning.specs.Refusals.{number_of}
 use Rattle.meaning.specs.declared.Refusal.{Refusal}
 use Rattle.meaning.specs.declared.Refusal.TheVariants as R

@@ -1,6 +1,4 @@
-use mathlib.Core.Path.{sym}
 use native.Mathlib.Omega.{arith}
-use lib.Seq.{length-take-le}
 use Rattle.roundtrip_call.specs.WholeLaws.{read_fits, read_refused, words_front, read_done}
 use Rattle.roundtrip_call.proofs.read_and_run.Goals as goal
 

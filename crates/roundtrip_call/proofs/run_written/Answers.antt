@@ -1,8 +1,8 @@
-use mathlib.Core.Path.{refl, sym}
+use mathlib.Core.Path.{refl}
 use mathlib.Core.Logic.{inl, inr}
 use native.Mathlib.Omega.{arith}
 use lib.ListN.{length-take}
-use lib.Seq.{length-take-le, length_front}
+use lib.Seq.{length_front}
 use Rattle.roundtrip_call.specs.WholeLaws.{scans_differ, write_refused, wrote_short, wrote_room, wrote_rules, wrote_front, written_done}
 use Rattle.roundtrip_call.proofs.run_written.Goals as goal
 
