@@ -280,10 +280,16 @@ fn run<R: Runtime>(rt: &R, page: PageKind, folder: &str) -> io::Result<()> {
     )
 }
 
+// Whether the folder is there and can be opened. It is closed again before its files are read.
+fn open_once<R: Runtime>(rt: &R, folder: &str) -> io::Result<()> {
+    let _folder = fs::open(rt, folder)?;
+    Ok(())
+}
+
 // A folder that is not there is no folder of missing files.
 fn start<R: Runtime>(rt: &R, page: PageKind, folder: &str) -> io::Result<()> {
-    match fs::open(rt, folder) {
-        Ok(_) => run(rt, page, folder),
+    match open_once(rt, folder) {
+        Ok(()) => run(rt, page, folder),
         Err(error) => eprintln!(rt; "{folder}: {error}"),
     }
 }
@@ -325,15 +331,23 @@ fn needs_asked(word: &str) -> bool {
     word == "--needs"
 }
 
-fn main(rt: HostRuntime) -> io::Result<()> {
-    let mut words = env::args(&rt)?;
+// What the arguments ask for. The first is the program's name.
+fn start_asked<R: Runtime>(rt: &R, mut words: Args) -> io::Result<()> {
     let _name = words.next();
     let Some(word) = words.next() else {
-        return start(&rt, PageKind::Text, ".");
+        return start(rt, PageKind::Text, ".");
     };
     if needs_asked(word.as_str()) {
         let folder = words.next();
-        return start_from(&rt, PageKind::Needs, folder, words);
+        return start_from(rt, PageKind::Needs, folder, words);
     }
-    start_from(&rt, PageKind::Text, Some(word), words)
+    start_from(rt, PageKind::Text, Some(word), words)
+}
+
+// An argument that is no text is trouble.
+fn main(rt: HostRuntime) -> io::Result<()> {
+    match env::args(&rt) {
+        Ok(words) => start_asked(&rt, words),
+        Err(error) => eprintln!(rt; "splicetuck: the arguments: {error}"),
+    }
 }

@@ -12,8 +12,8 @@ use Rattle.meaning.proofs.Laws.Tree.{initial_leaf, initial_sub}
 use Rattle.chart_moving.proofs.set_below.Goals as goal
 
 -- an initial sub-state is a state
-initial-known : (c : Tables) → Rules c → (s : ℕ) → s < state_count c → initial c s < state_count c
-initial-known c R s h = elim (which (is_leaf c s)) [
+initial_known : (c : Tables) → Rules c → (s : ℕ) → s < state_count c → initial c s < state_count c
+initial_known c R s h = elim (which (is_leaf c s)) [
   | inl e ↦ rw (initial_leaf c R s h e) (omega arith)
   | inr e ↦ (initial_sub c R s h e).known
 ]
@@ -32,7 +32,7 @@ returns-then-below-eq0 c c' e R h =
     let z : 9 - b.k ≡ suc (9 - (b.k + 1)) = omega arith in
     let p = c.initial-below.ensures c' e in
     let f = R.size.few_states in
-    c.remember.ensures (omega (arith, p, initial-known c' R b.s i.0))
+    c.remember.ensures (omega (arith, p, initial_known c' R b.s i.0))
     ∙ rw p (rw (z, set_below, eq-eqb (initial c' b.s) 0 (sym p ∙ c.if-below-eq0.true)) at i.1)
 
 pub loop-k-preserved : goal.loop-k-preserved
@@ -47,7 +47,7 @@ loop-k-preserved c =
           let z : 9 - b.k ≡ suc (9 - (b.k + 1)) = omega arith in
           let p = c.initial-below.ensures c' e in
           let f = R.size.few_states in
-          let v = initial-known c' R b.s i.0 in
+          let v = initial_known c' R b.s i.0 in
           let n : initial c' b.s ≡ 0 → ⊥ = λ x. c.if-below-eq0.false (p ∙ x) in
           (rw p v, rw (r.ensures (omega (arith, p)), p) (rw (z, set_below, ne_eqb (initial c' b.s) 0 n) at i.1)),
     )

@@ -9,8 +9,8 @@ use Rattle.chart_state_rules.specs.Values.{value_passes}
 use Rattle.chart_state_rules.proofs.value_passes.Goals as goal
 
 -- a whole number of scan steps up to N passes where the timer runs, or is 0
-passes-by : (d p : ℕ) (b : Bool) (v : ℕ) → v % d ≡ 0 → v ≤ longest d p → value_passes d p b v ≡ (b || eqb v 0)
-passes-by d p b v e h = rw (eq-eqb (v % d) 0 e, le-leb v (longest d p) h)
+passes_by : (d p : ℕ) (b : Bool) (v : ℕ) → v % d ≡ 0 → v ≤ longest d p → value_passes d p b v ≡ (b || eqb v 0)
+passes_by d p b v e h = rw (eq-eqb (v % d) 0 e, le-leb v (longest d p) h)
 
 pub returns-then-step-lt1 : goal.returns-then-step-lt1
 returns-then-step-lt1 c h = absurd (omega arith)
@@ -27,10 +27,10 @@ pub returns-then-runs : goal.returns-then-runs
 returns-then-runs c h =
     let a = c.args in
     let e : (a.runs || eqb a.value 0) ≡ true = ap (λ b. b || eqb a.value 0) c.if-runs.true in
-    sym (passes-by a.step a.preset a.runs a.value c.if-value-step-ne0.false (omega (arith, c.longest.ensures)) ∙ e)
+    sym (passes_by a.step a.preset a.runs a.value c.if-value-step-ne0.false (omega (arith, c.longest.ensures)) ∙ e)
 
 pub returns : goal.returns
 returns c h =
     let a = c.args in
     let e : (a.runs || eqb a.value 0) ≡ eqb a.value 0 = ap (λ b. b || eqb a.value 0) c.if-runs.false in
-    sym (passes-by a.step a.preset a.runs a.value c.if-value-step-ne0.false (omega (arith, c.longest.ensures)) ∙ e)
+    sym (passes_by a.step a.preset a.runs a.value c.if-value-step-ne0.false (omega (arith, c.longest.ensures)) ∙ e)

@@ -11,18 +11,18 @@ use mathlib.Core.Path.{◌≡◌, refl, subst}
 use Prim.Native.Nat.{ℕ}
 use Rattle.check_rules.proofs.below.Goals as goal
 
-below-neg : (n : ℕ) (v : ℤ) → lt_z v (pos 0) ≡ true → false ≡ below n v
+below_neg : (n : ℕ) (v : ℤ) → lt_z v (pos 0) ≡ true → false ≡ below n v
 unfolding below
-below-neg n (pos k) q = absurd (omega (arith, ltb-true k 0 q))
-below-neg n (negsuc k) q = refl
+below_neg n (pos k) q = absurd (omega (arith, ltb-true k 0 q))
+below_neg n (negsuc k) q = refl
 
-below-pos : (n : ℕ) (v : ℤ) → lt_z v (pos 0) ≡ false → ltb (nat_abs v) n ≡ below n v
+below_pos : (n : ℕ) (v : ℤ) → lt_z v (pos 0) ≡ false → ltb (nat_abs v) n ≡ below n v
 unfolding below
-below-pos n (pos k) q = refl
-below-pos n (negsuc k) q = absurd (subst T q tt)
+below_pos n (pos k) q = refl
+below_pos n (negsuc k) q = absurd (subst T q tt)
 
 pub returns-then-v-lt0 : goal.returns-then-v-lt0
-returns-then-v-lt0 c = below-neg c.args.n c.args.v (rw (to_z-of_z c.ranges.v) at c.if-v-lt0.true)
+returns-then-v-lt0 c = below_neg c.args.n c.args.v (rw (to_z-of_z c.ranges.v) at c.if-v-lt0.true)
 
 pub overflow_cast-result : goal.overflow_cast-result
 overflow_cast-result c =
@@ -32,4 +32,4 @@ overflow_cast-result c =
 pub returns : goal.returns
 returns c =
     let f = to_z-of_z c.ranges.v in
-    rw f (below-pos c.args.n c.args.v (rw f at c.if-v-lt0.false))
+    rw f (below_pos c.args.n c.args.v (rw f at c.if-v-lt0.false))

@@ -20,9 +20,9 @@ few : (c : Tables) → size_passes c ≡ true → state_count c ≤ 256
 unfolding size_passes
 few c e = leb-true (state_count c) 256 (search (and_l, and_r) depth 14)
 
-few-moves : (c : Tables) → size_passes c ≡ true → move_count c ≤ 512
+few_moves_lem : (c : Tables) → size_passes c ≡ true → move_count c ≤ 512
 unfolding size_passes
-few-moves c e = leb-true (move_count c) 512 (search (and_l, and_r) depth 14)
+few_moves_lem c e = leb-true (move_count c) 512 (search (and_l, and_r) depth 14)
 
 even : (c : Tables) → size_passes c ≡ true → length c.states % 2 ≡ 0
 unfolding size_passes
@@ -37,7 +37,7 @@ sound c e f = record {
       (rest_goes (check_of c L.Hierarchy) (check_of c L.Initial ∷ check_of c L.Preset ∷ check_of c L.TimerPair ∷ check_of c L.OutputPair ∷ []) f));
   tree = record { few = few c e; hierarchy = hierarchy c f };
   falling = falling c (even c e) (hierarchy c f);
-  few_moves = few-moves c e;
+  few_moves = few_moves_lem c e;
 }
 
 pub returns-then-not-size_passes : goal.returns-then-not-size_passes

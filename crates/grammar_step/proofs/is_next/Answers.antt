@@ -7,8 +7,8 @@ use borrow.Author.Tests.{eqb-true, eqb-false, eq-eqb, ne_eqb}
 use Rattle.meaning.proofs.Laws.Rows.{which}
 use Rattle.grammar_step.proofs.is_next.Goals as goal
 
-pred-eqb : (n t : ℕ) → n ≢ 0 → eqb (n - 1) t ≡ eqb n (suc t)
-pred-eqb n t h = elim (which (eqb n (suc t))) [
+pred_eqb : (n t : ℕ) → n ≢ 0 → eqb (n - 1) t ≡ eqb n (suc t)
+pred_eqb n t h = elim (which (eqb n (suc t))) [
   | inl e ↦ eq-eqb (n - 1) t (omega (arith, eqb-true n (suc t) e)) ∙ sym e
   | inr e ↦ ne_eqb (n - 1) t (λ d. eqb-false n (suc t) e (omega arith)) ∙ sym e
 ]
@@ -17,4 +17,4 @@ pub returns-then-n-eq0 : goal.returns-then-n-eq0
 returns-then-n-eq0 c = sym (ne_eqb c.args.n (suc c.args.s.timers) (λ e. omega arith))
 
 pub returns : goal.returns
-returns c = pred-eqb _ _ c.if-n-eq0.false
+returns c = pred_eqb _ _ c.if-n-eq0.false

@@ -14,9 +14,9 @@ use native.Mathlib.Omega.{arith}
 use Rattle.layout.proofs.coded.Goals as goal
 
 -- the code of a sub-state of a, from the others of a below it
-coded-is : (c : Tables) (a k s : ℕ) → sub_state c a s ≡ true → coded c a k s ≡ eqb (cond (eqb s (initial c a)) 0 (suc (count (other_sub_state c a) s))) k
+coded_is : (c : Tables) (a k s : ℕ) → sub_state c a s ≡ true → coded c a k s ≡ eqb (cond (eqb s (initial c a)) 0 (suc (count (other_sub_state c a) s))) k
 unfolding coded code
-coded-is c a k s e = rw (e, code, ((sub_state_tells c a s).0 e).under)
+coded_is c a k s e = rw (e, code, ((sub_state_tells c a s).0 e).under)
 
 pub returns-then-not-sub_state : goal.returns-then-not-sub_state
 unfolding coded
@@ -28,7 +28,7 @@ returns-then-s-initial c c' e q =
     let g = c.args in
     let s : sub_state c' g.a g.s ≡ true = sym (c.sub_state.ensures c' e) ∙ c.if-not-sub_state.false in
     let i : g.s ≡ initial c' g.a = c.if-s-initial.true ∙ c.initial.ensures c' e in
-    sym (coded-is c' g.a g.k g.s s ∙ rw (eq-eqb g.s (initial c' g.a) i)
+    sym (coded_is c' g.a g.k g.s s ∙ rw (eq-eqb g.s (initial c' g.a) i)
     (same_test (eqb 0 g.k) (eqb g.k 0) (λ x. eq-eqb g.k 0 (sym (eqb-true 0 g.k x))) (λ x. eq-eqb 0 g.k (sym (eqb-true g.k 0 x)))))
 
 pub returns-then-k-eq0 : goal.returns-then-k-eq0
@@ -36,7 +36,7 @@ returns-then-k-eq0 c c' e q =
     let g = c.args in
     let s : sub_state c' g.a g.s ≡ true = sym (c.sub_state.ensures c' e) ∙ c.if-not-sub_state.false in
     let i : g.s ≡ initial c' g.a → ⊥ = λ x. c.if-s-initial.false (x ∙ sym (c.initial.ensures c' e)) in
-    sym (coded-is c' g.a g.k g.s s ∙ rw (ne_eqb g.s (initial c' g.a) i) (ne_eqb _ g.k (λ x. omega (arith, c.if-k-eq0.true))))
+    sym (coded_is c' g.a g.k g.s s ∙ rw (ne_eqb g.s (initial c' g.a) i) (ne_eqb _ g.k (λ x. omega (arith, c.if-k-eq0.true))))
 
 pub returns : goal.returns
 returns c c' e q =
@@ -44,7 +44,7 @@ returns c c' e q =
     let n = count (other_sub_state c' g.a) g.s in
     let s : sub_state c' g.a g.s ≡ true = sym (c.sub_state.ensures c' e) ∙ c.if-not-sub_state.false in
     let i : g.s ≡ initial c' g.a → ⊥ = λ x. c.if-s-initial.false (x ∙ sym (c.initial.ensures c' e)) in
-    sym (coded-is c' g.a g.k g.s s ∙ rw (ne_eqb g.s (initial c' g.a) i)
+    sym (coded_is c' g.a g.k g.s s ∙ rw (ne_eqb g.s (initial c' g.a) i)
     (same_test (eqb (suc n) g.k) (eqb g.others (g.k - 1))
     (λ x. eq-eqb g.others (g.k - 1) (omega (arith, eqb-true (suc n) g.k x)))
     (λ x. eq-eqb (suc n) g.k (omega (arith, eqb-true g.others (g.k - 1) x)))))

@@ -7,10 +7,10 @@ use Prim.Native.Nat.{ℕ, zero, ◌-◌, ◌+◌, suc}
 use Rattle.tables.proofs.depth.Goals as goal
 
 -- at the root no level is left
-at-root : (c : Tables) (k : ℕ) → levels c k 0 ≡ 0
+at_root : (c : Tables) (k : ℕ) → levels c k 0 ≡ 0
 unfolding levels
-at-root c zero = refl
-at-root c (suc k) = refl
+at_root c zero = refl
+at_root c (suc k) = refl
 
 -- elsewhere there is one more above
 one_up : (c : Tables) (k t : ℕ) → (t ≡ 0 → ⊥) → levels c (suc k) t ≡ suc (levels c k (super_state c t))
@@ -25,7 +25,7 @@ loop-k-init c = (omega arith, λ c' e. sym (zero-add _))
 pub returns-then-t-eq0 : goal.returns-then-t-eq0
 returns-then-t-eq0 c c' e =
     let b = c.loop-k in
-    let z = at-root c' (9 - b.k) in
+    let z = at_root c' (9 - b.k) in
     omega (arith, b.invariant.1 c' e, ap (levels c' (9 - b.k)) c.if-t-eq0.true)
 
 pub loop-k-preserved : goal.loop-k-preserved

@@ -21,17 +21,17 @@ low k h (negsuc n) f p =
     let g : k < n = ltb-true k n p in omega arith
 
 -- a negative number above it: its opposite fits, is no negative number, and is its size
-opposite-fits : (k : ℕ) → k ≤ 32766 → (v : ℤ) → lt_z v (negsuc k) ≡ false → lt_z v (pos 0) ≡ true → SFits w16 (pos 0 -ℤ v)
-opposite-fits k h (pos n) p q = absurd (omega (arith, ltb-true n 0 q))
-opposite-fits k h (negsuc n) p q = record { sfits = omega (arith, ltb-false k n p) }
+opposite_fits : (k : ℕ) → k ≤ 32766 → (v : ℤ) → lt_z v (negsuc k) ≡ false → lt_z v (pos 0) ≡ true → SFits w16 (pos 0 -ℤ v)
+opposite_fits k h (pos n) p q = absurd (omega (arith, ltb-true n 0 q))
+opposite_fits k h (negsuc n) p q = record { sfits = omega (arith, ltb-false k n p) }
 
-opposite-pos : (v : ℤ) → lt_z v (pos 0) ≡ true → T (non_neg (pos 0 -ℤ v))
-opposite-pos (pos n) q = absurd (omega (arith, ltb-true n 0 q))
-opposite-pos (negsuc n) q = tt
+opposite_pos : (v : ℤ) → lt_z v (pos 0) ≡ true → T (non_neg (pos 0 -ℤ v))
+opposite_pos (pos n) q = absurd (omega (arith, ltb-true n 0 q))
+opposite_pos (negsuc n) q = tt
 
-opposite-size : (v : ℤ) → lt_z v (pos 0) ≡ true → nat_abs (pos 0 -ℤ v) ≡ nat_abs v
-opposite-size (pos n) q = absurd (omega (arith, ltb-true n 0 q))
-opposite-size (negsuc n) q = zero-add (suc n)
+opposite_size : (v : ℤ) → lt_z v (pos 0) ≡ true → nat_abs (pos 0 -ℤ v) ≡ nat_abs v
+opposite_size (pos n) q = absurd (omega (arith, ltb-true n 0 q))
+opposite_size (negsuc n) q = zero-add (suc n)
 
 pub returns-then-v-lt-LEAST_OPPOSED : goal.returns-then-v-lt-LEAST_OPPOSED
 returns-then-v-lt-LEAST_OPPOSED c =
@@ -39,21 +39,21 @@ returns-then-v-lt-LEAST_OPPOSED c =
 
 pub overflow_sub-result : goal.overflow_sub-result
 overflow_sub-result c =
-    let u = to_z w16 (of_z w16 c.args.v) in opposite-fits _ (omega arith) u c.if-v-lt-LEAST_OPPOSED.false c.if-v-lt0.true
+    let u = to_z w16 (of_z w16 c.args.v) in opposite_fits _ (omega arith) u c.if-v-lt-LEAST_OPPOSED.false c.if-v-lt0.true
 
 pub overflow_cast-result : goal.overflow_cast-result
 overflow_cast-result c =
     let u = to_z w16 (of_z w16 c.args.v) in
-    let f = opposite-fits _ (omega arith) u c.if-v-lt-LEAST_OPPOSED.false c.if-v-lt0.true in
-    rw (to_z-of_z f) (opposite-pos u c.if-v-lt0.true, Fits-nat_abs tt f)
+    let f = opposite_fits _ (omega arith) u c.if-v-lt-LEAST_OPPOSED.false c.if-v-lt0.true in
+    rw (to_z-of_z f) (opposite_pos u c.if-v-lt0.true, Fits-nat_abs tt f)
 
 pub returns-then-v-lt0 : goal.returns-then-v-lt0
 returns-then-v-lt0 c =
     let v = c.args.v in
     let u = to_z w16 (of_z w16 v) in
     let f = to_z-of_z c.ranges.v in
-    ap nat_abs (to_z-of_z {w = w16} (opposite-fits _ (omega arith) u c.if-v-lt-LEAST_OPPOSED.false c.if-v-lt0.true))
-    ∙ opposite-size u c.if-v-lt0.true ∙ ap nat_abs f
+    ap nat_abs (to_z-of_z {w = w16} (opposite_fits _ (omega arith) u c.if-v-lt-LEAST_OPPOSED.false c.if-v-lt0.true))
+    ∙ opposite_size u c.if-v-lt0.true ∙ ap nat_abs f
 
 pub overflow_cast-result-2 : goal.overflow_cast-result-2
 overflow_cast-result-2 c =
