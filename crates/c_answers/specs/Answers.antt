@@ -1,22 +1,10 @@
 -- What an answer for C says: document 01's number and place, and the length written.
-use Rattle.std.specs.Prelude.{◌≡◌, ℕ}
-use Rattle.meaning.specs.Refusals.{verdict_number, verdict_place, number_of, place_of}
-use Rattle.meaning.specs.declared.Verdict.{Verdict}
-use Rattle.meaning.specs.declared.Verdict.TheVariants as G
-use Rattle.meaning.specs.declared.Ran.{Ran}
-use Rattle.meaning.specs.declared.Ran.TheVariants.{Done, Refused}
-use Rattle.chart_calls.specs.declared.Stepped.{Stepped}
-use Rattle.chart_calls.specs.declared.Stepped.TheVariants as N
-use Rattle.format.specs.declared.Written.{Written}
-use Rattle.format.specs.declared.Written.TheVariants as W
+use Rattle.std.specs.Prelude.{◌≡◌, ℕ, Result, Ok, Err}
+use Rattle.meaning.specs.Refusals.{Verdict, Answer, verdict_number, verdict_place, number_of, place_of}
+use Rattle.meaning.specs.declared.Refusal.{Refusal}
+use Rattle.chart_calls.specs.declared.StepSeen.{StepSeen}
 use Rattle.il_sizes.specs.declared.Sizes.{Sizes}
-use Rattle.il_sizes.specs.declared.Sizes.TheVariants as S
-use Rattle.read_text.specs.declared.TextAnswer.{TextAnswer as ReadAnswer}
-use Rattle.read_text.specs.declared.TextAnswer.TheVariants as D
-use Rattle.il_run.specs.declared.Scanned.{Scanned as ScanAnswer}
-use Rattle.il_run.specs.declared.Scanned.TheVariants as O
 use Rattle.roundtrip_call.specs.declared.WrittenRun.{WrittenRun}
-use Rattle.roundtrip_call.specs.declared.WrittenRun.TheVariants as K
 use Rattle.check_witness.specs.declared.Witness.{Witness}
 use Rattle.c_answers.specs.declared.CAnswer.{CAnswer}
 use Rattle.c_answers.specs.declared.CWitness.{CWitness}
@@ -40,25 +28,15 @@ pub record WitnessTold (w : Witness) (a : CWitness) : Type 0 where
   pub timers_on : a.timers_on ≡ w.on.timers
   pub timers_off : a.timers_off ≡ w.off.timers
 
--- a run that was done tells how many scans there were
-abbrev pub RanTold : Ran → CAnswer → Type 0
-RanTold (Done n) a = Told G.Accepted n a
-RanTold (Refused r) a = Told (G.Refused r) 0 a
-
--- a text that was written tells its length
-abbrev pub WrittenTold : Written → CAnswer → Type 0
-WrittenTold (W.Wrote n) a = Told G.Accepted n a
-WrittenTold (W.Refused r) a = Told (G.Refused r) 0 a
-
--- a text that was read tells how many words it has
-abbrev pub ReadTold : ReadAnswer → CAnswer → Type 0
-ReadTold (D.Read n) a = Told G.Accepted n a
-ReadTold (D.Refused r) a = Told (G.Refused r) 0 a
+-- how many scans were done, bytes written or words read
+abbrev pub CountTold : Answer → CAnswer → Type 0
+CountTold (Ok n) a = Told (Ok tt) n a
+CountTold (Err r) a = Told (Err r) 0 a
 
 -- a text that was written, read back and run tells its length
-abbrev pub OutcomeTold : WrittenRun → CAnswer → Type 0
-OutcomeTold (K.Ran n m) a = Told G.Accepted n a
-OutcomeTold (K.Refused r) a = Told (G.Refused r) 0 a
+abbrev pub OutcomeTold : Result WrittenRun Refusal → CAnswer → Type 0
+OutcomeTold (Ok o) a = Told (Ok tt) o.text a
+OutcomeTold (Err r) a = Told (Err r) 0 a
 
 -- what is seen after one scan, or why there was none
 pub record StepGiven (n p l o : ℕ) (a : CStep) : Type 0 where
@@ -67,9 +45,9 @@ pub record StepGiven (n p l o : ℕ) (a : CStep) : Type 0 where
   pub leaf : a.leaf ≡ l
   pub outputs : a.outputs ≡ o
 
-abbrev pub StepTold : Stepped → CStep → Type 0
-StepTold (N.Done l o) a = StepGiven 0 0 l o a
-StepTold (N.Refused r) a = StepGiven (number_of r) (place_of r) 0 0 a
+abbrev pub StepTold : Result StepSeen Refusal → CStep → Type 0
+StepTold (Ok s) a = StepGiven 0 0 s.leaf s.outputs a
+StepTold (Err r) a = StepGiven (number_of r) (place_of r) 0 0 a
 
 -- the output word of a scan, or why there is none
 pub record ScanGiven (n p o : ℕ) (a : CScan) : Type 0 where
@@ -77,9 +55,9 @@ pub record ScanGiven (n p o : ℕ) (a : CScan) : Type 0 where
   pub place : a.place ≡ p
   pub outputs : a.outputs ≡ o
 
-abbrev pub ScanTold : ScanAnswer → CScan → Type 0
-ScanTold (O.Outputs w) a = ScanGiven 0 0 w a
-ScanTold (O.Refused r) a = ScanGiven (number_of r) (place_of r) 0 a
+abbrev pub ScanTold : Answer → CScan → Type 0
+ScanTold (Ok w) a = ScanGiven 0 0 w a
+ScanTold (Err r) a = ScanGiven (number_of r) (place_of r) 0 a
 
 -- the sizes of a controller, or why there are none
 pub record SizesGiven (n p f b : ℕ) (a : ControllerSizes) : Type 0 where
@@ -88,6 +66,6 @@ pub record SizesGiven (n p f b : ℕ) (a : ControllerSizes) : Type 0 where
   pub flip_flops : a.flip_flops ≡ f
   pub blocks : a.blocks ≡ b
 
-abbrev pub SizesTell : Sizes → ControllerSizes → Type 0
-SizesTell (S.Controller f b) a = SizesGiven 0 0 f b a
-SizesTell (S.Refused r) a = SizesGiven (number_of r) (place_of r) 0 0 a
+abbrev pub SizesTell : Result Sizes Refusal → ControllerSizes → Type 0
+SizesTell (Ok s) a = SizesGiven 0 0 s.flip_flops s.blocks a
+SizesTell (Err r) a = SizesGiven (number_of r) (place_of r) 0 0 a

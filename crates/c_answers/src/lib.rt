@@ -1,18 +1,16 @@
-// Answers told in document 01's numbers: what the calls for C answer, as structs that C has too.
+// Answers told in document 01's numbers: what the calls for C answer, as structs that C has too, and what each is made
+// of.
 #![tactic(auto)]
 
-ghost use Rattle.std.specs.Prelude.{◌≡◌, leb};
-ghost use Rattle.meaning.specs.declared.Verdict.{Verdict};
-ghost use Rattle.c_answers.specs.Answers.{Told, RanTold, StepTold, WrittenTold, SizesTell, ReadTold, ScanTold};
-ghost use Rattle.c_answers.specs.Answers.{OutcomeTold, WitnessTold};
+ghost use Rattle.std.specs.Prelude.{◌≡◌, leb, Ok, Err};
+ghost use Rattle.c_answers.specs.Answers.{Told, CountTold, OutcomeTold, StepTold, SizesTell, ScanTold, WitnessTold};
 ghost use Rattle.c_answers.specs.Files.{file_of, RecordsTold};
 
-use chart_calls::Stepped;
+use chart_calls::StepSeen;
 use check_witness::Witness;
-use csv_file::File;
-use format::Written;
+use csv_file::{File, FileRead};
 use il_sizes::Sizes;
-use meaning::{Ran, Refusal, Verdict};
+use meaning::Refusal;
 use roundtrip_call::WrittenRun;
 
 // Document 01's number of the answer, its place, and how much was written.
@@ -25,34 +23,87 @@ pub struct CAnswer {
 }
 
 // A refusal has written nothing.
-pub fn refused(r: Refusal) -> CAnswer
-    ensures { Told (Verdict.Refused r) 0 result }
-{
-    CAnswer {
-        number: meaning::number(r),
-        place: meaning::place(r),
-        length: 0,
+impl From<Refusal> for CAnswer {
+    ghost from_gives = { λ r a. Told (Err r) 0 a };
+
+    fn from(r: Refusal) -> CAnswer {
+        CAnswer {
+            number: meaning::number(r),
+            place: meaning::place(r),
+            length: 0,
+        }
     }
 }
 
-// What was accepted tells a length.
-pub fn accepted(length: usize) -> CAnswer
-    ensures { Told Verdict.Accepted length result }
-{
-    CAnswer {
-        number: 0,
-        place: 0,
-        length: length,
+// How many scans were done, bytes written or words read; of what was refused none.
+impl From<Result<usize, Refusal>> for CAnswer {
+    ghost from_gives = { λ r a. CountTold r a };
+
+    fn from(answer: Result<usize, Refusal>) -> CAnswer {
+        match answer {
+            Ok(length) => CAnswer {
+                number: 0,
+                place: 0,
+                length,
+            },
+            Err(r) => r.into(),
+        }
     }
 }
 
 // A check has nothing to tell but its verdict.
-pub fn tell(v: Verdict) -> CAnswer
-    ensures { Told v 0 result }
+impl From<Result<(), Refusal>> for CAnswer {
+    ghost from_gives = { λ v a. Told v 0 a };
+
+    fn from(verdict: Result<(), Refusal>) -> CAnswer {
+        verdict.map(|_| 0usize).into()
+    }
+}
+
+// Of a text that was written, read back and run, its length.
+impl From<Result<WrittenRun, Refusal>> for CAnswer {
+    ghost from_gives = { λ o a. OutcomeTold o a };
+
+    fn from(outcome: Result<WrittenRun, Refusal>) -> CAnswer {
+        match outcome {
+            Ok(ran) => Ok::<usize, Refusal>(ran.text).into(),
+            Err(r) => r.into(),
+        }
+    }
+}
+
+// Of a file that was read, how many numbers it has.
+impl From<Result<FileRead, Refusal>> for CAnswer {
+    ghost from_gives = { λ r a. RecordsTold r a };
+
+    fn from(read: Result<FileRead, Refusal>) -> CAnswer {
+        match read {
+            Ok(file) => Ok::<usize, Refusal>(file.numbers).into(),
+            Err(r) => r.into(),
+        }
+    }
+}
+
+// Whether a number is that of one of the seven files.
+pub fn is_file(kind: u32) -> bool
+    ensures { result ≡ leb kind 6 }
 {
-    match v {
-        Verdict::Accepted => accepted(0),
-        Verdict::Refused(r) => refused(r),
+    kind <= 6
+}
+
+// The file that C names by its place in the order of the program section, from 0; scans.csv for any number above. C
+// gives a number; and no TryFrom, since this answers for each.
+pub fn file_of(kind: u32) -> File
+    ensures { result ≡ file_of kind }
+{
+    match kind {
+        0 => File::Frame,
+        1 => File::States,
+        2 => File::Moves,
+        3 => File::Presets,
+        4 => File::TimerPairs,
+        5 => File::OutputPairs,
+        _ => File::Scans,
     }
 }
 
@@ -71,95 +122,21 @@ pub struct CWitness {
 }
 
 // Of a check with a witness, the verdict and what is shown.
-pub fn tell_witness(w: Witness) -> CWitness
-    ensures { WitnessTold w result }
-{
-    let v = w.verdict;
-    let a = tell(v);
-    CWitness {
-        number: a.number,
-        place: a.place as u64,
-        earlier: w.earlier as u64,
-        state: w.state as u64,
-        inputs_on: w.on.inputs,
-        inputs_off: w.off.inputs,
-        timers_on: w.on.timers,
-        timers_off: w.off.timers,
-    }
-}
+impl From<Witness> for CWitness {
+    ghost from_gives = { λ w a. WitnessTold w a };
 
-// Of a run that was done, how many scans there were.
-pub fn tell_run(r: Ran) -> CAnswer
-    ensures { RanTold r result }
-{
-    match r {
-        Ran::Done(n) => accepted(n),
-        Ran::Refused(q) => refused(q),
-    }
-}
-
-// Of a text that was written, its length.
-pub fn tell_written(w: Written) -> CAnswer
-    ensures { WrittenTold w result }
-{
-    match w {
-        Written::Wrote(n) => accepted(n),
-        Written::Refused(r) => refused(r),
-    }
-}
-
-// Of a text that was read, how many words it has.
-pub fn tell_read(r: read_text::TextAnswer) -> CAnswer
-    ensures { ReadTold r result }
-{
-    match r {
-        read_text::TextAnswer::Read(n) => accepted(n),
-        read_text::TextAnswer::Refused(q) => refused(q),
-    }
-}
-
-// Of a text that was written, read back and run, its length.
-pub fn tell_outcome(o: WrittenRun) -> CAnswer
-    ensures { OutcomeTold o result }
-{
-    match o {
-        WrittenRun::Ran { text, words: _ } => accepted(text),
-        WrittenRun::Refused(r) => refused(r),
-    }
-}
-
-// Whether a number is that of one of the seven files.
-pub fn is_file(kind: u32) -> bool
-    ensures { result ≡ leb kind 6 }
-{
-    kind <= 6
-}
-
-// The file that C names by its place in the order of the program section, from 0; scans.csv for any number above.
-pub fn file_of(kind: u32) -> File
-    ensures { result ≡ file_of kind }
-{
-    match kind {
-        0 => File::Frame,
-        1 => File::States,
-        2 => File::Moves,
-        3 => File::Presets,
-        4 => File::TimerPairs,
-        5 => File::OutputPairs,
-        _ => File::Scans,
-    }
-}
-
-// Of a file that was read, how many numbers it has.
-pub fn tell_records(r: csv_file::FileRead) -> CAnswer
-    ensures { RecordsTold r result }
-{
-    match r {
-        csv_file::FileRead::Numbers {
-            records: _,
-            numbers,
-        } => accepted(numbers),
-        csv_file::FileRead::Refused(q) => refused(q),
+    fn from(w: Witness) -> CWitness {
+        let a = CAnswer::from(w.verdict);
+        CWitness {
+            number: a.number,
+            place: a.place as u64,
+            earlier: w.earlier as u64,
+            state: w.state as u64,
+            inputs_on: w.on.inputs,
+            inputs_off: w.off.inputs,
+            timers_on: w.on.timers,
+            timers_off: w.off.timers,
+        }
     }
 }
 
@@ -174,23 +151,25 @@ pub struct CStep {
 }
 
 // Of one scan of a chart, the leaf and the outputs after it.
-pub fn tell_step(s: Stepped) -> CStep
-    ensures { StepTold s result }
-{
-    match s {
-        Stepped::Done { leaf, outputs } => CStep {
-            number: 0,
-            place: 0,
-            leaf: leaf,
-            outputs: outputs,
-        },
-        Stepped::Refused(r) => {
-            let a = refused(r);
-            CStep {
-                number: a.number,
-                place: a.place,
-                leaf: 0,
-                outputs: 0,
+impl From<Result<StepSeen, Refusal>> for CStep {
+    ghost from_gives = { λ s a. StepTold s a };
+
+    fn from(step: Result<StepSeen, Refusal>) -> CStep {
+        match step {
+            Ok(seen) => CStep {
+                number: 0,
+                place: 0,
+                leaf: seen.leaf,
+                outputs: seen.outputs,
+            },
+            Err(r) => {
+                let CAnswer { number, place, .. } = r.into();
+                CStep {
+                    number,
+                    place,
+                    leaf: 0,
+                    outputs: 0,
+                }
             }
         }
     }
@@ -206,21 +185,23 @@ pub struct CScan {
 }
 
 // Of one scan of a program, its output word.
-pub fn tell_scan(r: il_run::Scanned) -> CScan
-    ensures { ScanTold r result }
-{
-    match r {
-        il_run::Scanned::Outputs(w) => CScan {
-            number: 0,
-            place: 0,
-            outputs: w,
-        },
-        il_run::Scanned::Refused(q) => {
-            let a = refused(q);
-            CScan {
-                number: a.number,
-                place: a.place,
-                outputs: 0,
+impl From<Result<u64, Refusal>> for CScan {
+    ghost from_gives = { λ r a. ScanTold r a };
+
+    fn from(scan: Result<u64, Refusal>) -> CScan {
+        match scan {
+            Ok(word) => CScan {
+                number: 0,
+                place: 0,
+                outputs: word,
+            },
+            Err(r) => {
+                let CAnswer { number, place, .. } = r.into();
+                CScan {
+                    number,
+                    place,
+                    outputs: 0,
+                }
             }
         }
     }
@@ -237,23 +218,25 @@ pub struct ControllerSizes {
 }
 
 // Of words that are a program's, the two sizes.
-pub fn tell_sizes(s: Sizes) -> ControllerSizes
-    ensures { SizesTell s result }
-{
-    match s {
-        Sizes::Controller { flip_flops, blocks } => ControllerSizes {
-            number: 0,
-            place: 0,
-            flip_flops: flip_flops,
-            blocks: blocks,
-        },
-        Sizes::Refused(r) => {
-            let a = refused(r);
-            ControllerSizes {
-                number: a.number,
-                place: a.place,
-                flip_flops: 0,
-                blocks: 0,
+impl From<Result<Sizes, Refusal>> for ControllerSizes {
+    ghost from_gives = { λ s a. SizesTell s a };
+
+    fn from(sizes: Result<Sizes, Refusal>) -> ControllerSizes {
+        match sizes {
+            Ok(told) => ControllerSizes {
+                number: 0,
+                place: 0,
+                flip_flops: told.flip_flops,
+                blocks: told.blocks,
+            },
+            Err(r) => {
+                let CAnswer { number, place, .. } = r.into();
+                ControllerSizes {
+                    number,
+                    place,
+                    flip_flops: 0,
+                    blocks: 0,
+                }
             }
         }
     }

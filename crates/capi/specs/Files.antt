@@ -1,9 +1,9 @@
 -- What the reader of a file answers to C, which names the file by a number.
-use Rattle.std.specs.Prelude.{◌≡◌, List, ℕ, ◌≤◌, ◌<◌}
+use Rattle.std.specs.Prelude.{◌≡◌, List, ℕ, ◌≤◌, ◌<◌, Result, Err}
+use Rattle.meaning.specs.declared.Refusal.{Refusal}
 use Rattle.std.proofs.Common.{sym, ◌∙◌, arith}
 use Rattle.meaning.specs.declared.Refusal.TheVariants as R
-use Rattle.meaning.specs.declared.Verdict.TheVariants as G
-use Rattle.csv_file.specs.declared.FileRead.{FileRead as FileAnswer}
+use Rattle.csv_file.specs.declared.FileRead.{FileRead}
 use Rattle.csv_file.specs.Reads.{RecordsRead, records_read_same}
 use Rattle.c_answers.specs.declared.CAnswer.{CAnswer}
 use Rattle.c_answers.specs.Answers.{Told}
@@ -12,8 +12,8 @@ use Rattle.c_answers.specs.Once.{refused_once, tell_records_once}
 
 -- SIZE for a number that no file has, else what the file is read as
 pub data KindRead (kind : ℕ) (bs out : List ℕ) (a : CAnswer) (left : List ℕ) : Type 0 where
-  unknown : 6 < kind → Told (G.Refused R.Size) 0 a → left ≡ out → KindRead kind bs out a left
-  known : kind ≤ 6 → (r : FileAnswer) → RecordsRead (file_of kind) bs out r left → RecordsTold r a → KindRead kind bs out a left
+  unknown : 6 < kind → Told (Err R.Size) 0 a → left ≡ out → KindRead kind bs out a left
+  known : kind ≤ 6 → (r : Result FileRead Refusal) → RecordsRead (file_of kind) bs out r left → RecordsTold r a → KindRead kind bs out a left
 
 -- ---- no second answer
 

@@ -1,5 +1,7 @@
 -- What a run of a chart over lent state answers and leaves, for any tables.
-use Rattle.std.specs.Prelude.{◌≡◌, refl, List, [], ◌∷◌, ◌++◌, map, ℕ, length, replicate, eqb}
+use Rattle.meaning.specs.Refusals.{Answer}
+use Rattle.meaning.specs.Refusals.{Verdict}
+use Rattle.std.specs.Prelude.{◌≡◌, refl, List, [], ◌∷◌, ◌++◌, map, ℕ, length, replicate, eqb, Ok, Err}
 use Rattle.std.proofs.Common.{sym, ap, ◌∙◌, inl, inr}
 use Rattle.meaning.proofs.Laws.Rows.{which}
 use Rattle.meaning.specs.Tables.{Tables}
@@ -13,10 +15,6 @@ use Rattle.meaning.specs.History.{history_reading}
 use Rattle.meaning.proofs.Laws.History.{run_is_reading}
 use Rattle.meaning.proofs.Laws.Verdict.{accepted_exactly}
 use Rattle.meaning.specs.declared.Refusal.{Refusal}
-use Rattle.meaning.specs.declared.Verdict.{Verdict}
-use Rattle.meaning.specs.declared.Verdict.TheVariants.{Accepted, Refused}
-use Rattle.meaning.specs.declared.Ran.{Ran}
-use Rattle.meaning.specs.declared.Ran.TheVariants as A
 use Rattle.chart_lent.specs.Slice.{later_verdict, answer, left, LentRun}
 
 -- the refusals in their order: the tables' 1 to 11, STATE, SCANS
@@ -24,32 +22,32 @@ abbrev pub run_verdict : Tables → List ℕ → List ℕ → List ℕ → List 
 run_verdict c xs l ls os = verdict_of (chart_run_checks c l xs ls os)
 
 -- a run over the input words xs, from the lent state l and the result slices ls and os to l', ls' and os'
-pub record ChartRan (c : Tables) (xs l ls os : List ℕ) (r : Ran) (l' ls' os' : List ℕ) : Type 0 where
+pub record ChartRan (c : Tables) (xs l ls os : List ℕ) (r : Answer) (l' ls' os' : List ℕ) : Type 0 where
   pub answers : r ≡ answer (length xs) (run_verdict c xs l ls os)
   pub state : l' ≡ left (run_verdict c xs l ls os) (lent_of c (state_after_scans c (state_of c l) xs)) l
   pub leaves : ls' ≡ left (run_verdict c xs l ls os) (map (λ (e : Seen). e.leaf) (trace c (state_of c l) xs)) ls
   pub outputs : os' ≡ left (run_verdict c xs l ls os) (map (λ (e : Seen). e.outputs) (trace c (state_of c l) xs)) os
   -- demand 3: from cleared memory they are what the inputs and the list of earlier leaves call for
-  pub reads : run_verdict c xs l ls os ≡ Accepted → l ≡ replicate (lent_length c) 0
+  pub reads : run_verdict c xs l ls os ≡ (Ok tt) → l ≡ replicate (lent_length c) 0
       → (ls' ≡ map (λ (e : Seen). e.leaf) (history_reading c xs)) × (os' ≡ map (λ (e : Seen). e.outputs) (history_reading c xs))
 
 -- no second answer
-pub one_run : (c : Tables) (xs l ls os : List ℕ) (r s : Ran) (l' ls' os' l'' ls'' os'' : List ℕ)
+pub one_run : (c : Tables) (xs l ls os : List ℕ) (r s : Answer) (l' ls' os' l'' ls'' os'' : List ℕ)
     → ChartRan c xs l ls os r l' ls' os' → ChartRan c xs l ls os s l'' ls'' os'' → (r ≡ s) × (l' ≡ l'') × (ls' ≡ ls'') × (os' ≡ os'')
 one_run c xs l ls os r s l' ls' os' l'' ls'' os'' p q =
     (p.answers ∙ sym q.answers, p.state ∙ sym q.state, p.leaves ∙ sym q.leaves, p.outputs ∙ sym q.outputs)
 
 -- where all checks pass, those at the front do
-pub front_accepted : (ks js : List Check) → verdict_of (ks ++ js) ≡ Accepted → verdict_of ks ≡ Accepted
+pub front_accepted : (ks js : List Check) → verdict_of (ks ++ js) ≡ (Ok tt) → verdict_of ks ≡ (Ok tt)
 unfolding verdict_of
 front_accepted [] js e = refl
 front_accepted (k ∷ ks) js e = elim (which (eqb (first_failing k) k.rows)) [
   | inl f ↦ rw (verdict_of, f) (front_accepted ks js (rw (verdict_of, f) at e))
-  | inr f ↦ (let z : Refused (k.refusal (first_failing k)) ≡ Accepted = rw (verdict_of, f) at e in cc)
+  | inr f ↦ (let z : Err (k.refusal (first_failing k)) ≡ (Ok tt) = rw (verdict_of, f) at e in cc)
 ]
 
 -- the equations are all that there is to prove: the machine's run from the start is the history reading
-pub run_by : (c : Tables) (xs l ls os : List ℕ) (r : Ran) (l' ls' os' : List ℕ)
+pub run_by : (c : Tables) (xs l ls os : List ℕ) (r : Answer) (l' ls' os' : List ℕ)
     → r ≡ answer (length xs) (run_verdict c xs l ls os)
     → l' ≡ left (run_verdict c xs l ls os) (lent_of c (state_after_scans c (state_of c l) xs)) l
     → ls' ≡ left (run_verdict c xs l ls os) (map (λ (e : Seen). e.leaf) (trace c (state_of c l) xs)) ls
@@ -68,13 +66,13 @@ run_by c xs l ls os r l' ls' os' a b f g = record {
 }
 
 -- refused tables: nothing is run
-pub refused_tables : (c : Tables) (xs l ls os : List ℕ) (r : Refusal) → verdict c ≡ Refused r → ChartRan c xs l ls os (A.Refused r) l ls os
+pub refused_tables : (c : Tables) (xs l ls os : List ℕ) (r : Refusal) → verdict c ≡ Err r → ChartRan c xs l ls os (Err r) l ls os
 unfolding verdict chart_run_checks answer left
-refused_tables c xs l ls os r e = let v : run_verdict c xs l ls os ≡ Refused r = stop (checks c) _ (ap is_refused e) ∙ e in
-    run_by c xs l ls os (A.Refused r) l ls os (rw v) (rw v) (rw v) (rw v)
+refused_tables c xs l ls os r e = let v : run_verdict c xs l ls os ≡ Err r = stop (checks c) _ (ap is_refused e) ∙ e in
+    run_by c xs l ls os (Err r) l ls os (rw v) (rw v) (rw v) (rw v)
 
 -- accepted tables: the later checks decide
-pub accepted_tables : (c : Tables) (xs l ls os : List ℕ) (r : Ran) (l' ls' os' : List ℕ) → verdict c ≡ Accepted → LentRun c xs l ls os r l' ls' os' → ChartRan c xs l ls os r l' ls' os'
+pub accepted_tables : (c : Tables) (xs l ls os : List ℕ) (r : Answer) (l' ls' os' : List ℕ) → verdict c ≡ (Ok tt) → LentRun c xs l ls os r l' ls' os' → ChartRan c xs l ls os r l' ls' os'
 unfolding verdict chart_run_checks
 accepted_tables c xs l ls os r l' ls' os' e p =
     let v : run_verdict c xs l ls os ≡ later_verdict c l xs ls os = go (checks c) _ (ap is_refused e) in

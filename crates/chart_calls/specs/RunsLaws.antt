@@ -1,5 +1,7 @@
 -- Runs of a chart over lent state: one after the other, scan by scan, from the cleared state, and what they do not look at.
-use Rattle.std.specs.Prelude.{◌≡◌, refl, true, false, ℕ, zero, suc, ◌+◌, ◌≤◌, length, get_or, take, replicate, eqb}
+use Rattle.meaning.specs.Refusals.{Answer}
+use Rattle.meaning.specs.Refusals.{Verdict}
+use Rattle.std.specs.Prelude.{◌≡◌, refl, true, false, ℕ, zero, suc, ◌+◌, ◌≤◌, length, get_or, take, replicate, eqb, Ok, Err}
 use Rattle.std.proofs.Common.{sym, ap, ap₂, ◌∙◌, inl, inr, arith, length-append}
 use Rattle.std.proofs.Math.Bool.{not}
 use Rattle.std.proofs.lemmas.Bool.{false≢true}
@@ -22,81 +24,76 @@ use Rattle.meaning.specs.History.{history_reading}
 use Rattle.meaning.proofs.Laws.History.{run_is_reading}
 use Rattle.meaning.specs.declared.Refusal.{Refusal}
 use Rattle.meaning.specs.declared.Refusal.TheVariants as R
-use Rattle.meaning.specs.declared.Verdict.{Verdict}
-use Rattle.meaning.specs.declared.Verdict.TheVariants.{Accepted, Refused}
-use Rattle.meaning.specs.declared.Ran.{Ran}
-use Rattle.meaning.specs.declared.Ran.TheVariants as A
 use Rattle.chart_lent.specs.Slice.{later_verdict, answer, left}
 use Rattle.chart_lent.specs.RunLaws.{later}
 use Rattle.chart_calls.specs.Runs.{run_verdict, ChartRan, front_accepted, run_by}
-use Rattle.chart_calls.specs.Steps.{chart_step_checks, step_verdict, step_answer, ChartStepped}
+use Rattle.chart_calls.specs.declared.StepSeen.{StepSeen as Told}
+use Rattle.chart_calls.specs.Steps.{chart_step_checks, step_verdict, Stepped, step_told, step_answer, ChartStepped}
 use Rattle.chart_calls.specs.StepLaws.{done_accepted, shown_accepted, same_verdict}
-use Rattle.chart_calls.specs.declared.Stepped.{Stepped}
-use Rattle.chart_calls.specs.declared.Stepped.TheVariants as S
 
-not_accepted : (r : Refusal) → Refused r ≡ Accepted → ⊥
+not_accepted : (r : Refusal) → Err r ≡ Ok (tt {0}) → ⊥
 not_accepted r e = let z : false ≡ true = cc in false≢true z
 
 -- what a run that is done has passed
 pub record Runnable (c : Tables) (xs l ls os : List ℕ) : Type 0 where
-  pub tables : verdict c ≡ Accepted
+  pub tables : verdict c ≡ (Ok tt)
   pub state : state_passes c l ≡ true
   pub leaves : length ls ≡ length xs
   pub outputs : length os ≡ length xs
 
 module _ (c : Tables) (xs l ls os : List ℕ) where
-  runnable_later : later_verdict c l xs ls os ≡ Accepted → (state_passes c l ≡ true) × (length ls ≡ length xs) × (length os ≡ length xs)
+  runnable_later : later_verdict c l xs ls os ≡ (Ok tt) → (state_passes c l ≡ true) × (length ls ≡ length xs) × (length os ≡ length xs)
   runnable_later e = let tests = sym (later c xs l ls os) ∙ e in elim (which (state_passes c l)) [
     | inl f ↦ elim (which (eqb (length ls) (length xs))) [
       | inl g ↦ elim (which (eqb (length os) (length xs))) [
         | inl h ↦ (f, eqb-true (length ls) (length xs) g, eqb-true (length os) (length xs) h)
-        | inr h ↦ (let z : Refused R.Scans ≡ Accepted = rw (f, g, h) at tests in absurd (not_accepted _ z))
+        | inr h ↦ (let z : Err R.Scans ≡ (Ok tt) = rw (f, g, h) at tests in absurd (not_accepted _ z))
       ]
-      | inr g ↦ (let z : Refused R.Scans ≡ Accepted = rw (f, g) at tests in absurd (not_accepted _ z))
+      | inr g ↦ (let z : Err R.Scans ≡ (Ok tt) = rw (f, g) at tests in absurd (not_accepted _ z))
     ]
-    | inr f ↦ (let z : Refused R.State ≡ Accepted = rw f at tests in absurd (not_accepted _ z))
+    | inr f ↦ (let z : Err R.State ≡ (Ok tt) = rw f at tests in absurd (not_accepted _ z))
   ]
 
-  pub accepted_runnable : run_verdict c xs l ls os ≡ Accepted → Runnable c xs l ls os
+  pub accepted_runnable : run_verdict c xs l ls os ≡ (Ok tt) → Runnable c xs l ls os
   unfolding verdict chart_run_checks
   accepted_runnable e =
       let front = front_accepted (checks c) _ e in
       let r = runnable_later (sym (go (checks c) _ (ap is_refused front)) ∙ e) in
       record { tables = front; state = r.0; leaves = r.1; outputs = r.2 }
 
-  pub runnable_accepted : Runnable c xs l ls os → run_verdict c xs l ls os ≡ Accepted
+  pub runnable_accepted : Runnable c xs l ls os → run_verdict c xs l ls os ≡ (Ok tt)
   unfolding verdict chart_run_checks
   runnable_accepted r = go (checks c) _ (ap is_refused r.tables) ∙ later c xs l ls os ∙ rw (r.state, eq-eqb (length ls) (length xs) r.leaves, eq-eqb (length os) (length xs) r.outputs)
 
 -- the number of scans that a run says it did
-done_scans : (c : Tables) (xs l ls os : List ℕ) (n : ℕ) (l' ls' os' : List ℕ) → ChartRan c xs l ls os (A.Done n) l' ls' os' → n ≡ length xs
+done_scans : (c : Tables) (xs l ls os : List ℕ) (n : ℕ) (l' ls' os' : List ℕ) → ChartRan c xs l ls os (Ok n) l' ls' os' → n ≡ length xs
 unfolding answer
 done_scans c xs l ls os n l' ls' os' p =
-    let z : A.Done n ≡ A.Done (length xs) = rw (done_accepted (run_verdict c xs l ls os) n (length xs) p.answers) at p.answers in cc
+    let z : Ok n ≡ Ok (length xs) = rw (done_accepted (run_verdict c xs l ls os) n (length xs) p.answers) at p.answers in cc
 
 -- ---- one run after another
 
 -- Two runs that are done, the second from the state that the first left, are one run: its inputs, leaves and output words are those of
 -- the first and then those of the second.
 pub run_run : (c : Tables) (xs ys l ls os ks ps : List ℕ) (n m : ℕ) (l' ls' os' l'' ks' ps' : List ℕ)
-    → ChartRan c xs l ls os (A.Done n) l' ls' os' → ChartRan c ys l' ks ps (A.Done m) l'' ks' ps'
-    → ChartRan c (xs ++ ys) l (ls ++ ks) (os ++ ps) (A.Done (n + m)) l'' (ls' ++ ks') (os' ++ ps')
+    → ChartRan c xs l ls os (Ok n) l' ls' os' → ChartRan c ys l' ks ps (Ok m) l'' ks' ps'
+    → ChartRan c (xs ++ ys) l (ls ++ ks) (os ++ ps) (Ok (n + m)) l'' (ls' ++ ks') (os' ++ ps')
 unfolding answer left
 run_run c xs ys l ls os ks ps n m l' ls' os' l'' ks' ps' p q =
-    let v : run_verdict c xs l ls os ≡ Accepted = done_accepted (run_verdict c xs l ls os) n (length xs) p.answers in
-    let w : run_verdict c ys l' ks ps ≡ Accepted = done_accepted (run_verdict c ys l' ks ps) m (length ys) q.answers in
+    let v : run_verdict c xs l ls os ≡ (Ok tt) = done_accepted (run_verdict c xs l ls os) n (length xs) p.answers in
+    let w : run_verdict c ys l' ks ps ≡ (Ok tt) = done_accepted (run_verdict c ys l' ks ps) m (length ys) q.answers in
     let r = accepted_runnable c xs l ls os v in
     let t = accepted_runnable c ys l' ks ps w in
     let K : Rules c = (accepted_exactly c).0 r.tables in
     let mid : state_of c l' ≡ state_after_scans c (state_of c l) xs = ap (state_of c) (rw v at p.state) ∙ valid_back c K (state_after_scans c (state_of c l) xs) (after_valid c K xs (state_of c l) (lent_valid c K l r.state)) in
-    let u : run_verdict c (xs ++ ys) l (ls ++ ks) (os ++ ps) ≡ Accepted = runnable_accepted c (xs ++ ys) l (ls ++ ks) (os ++ ps) (record {
+    let u : run_verdict c (xs ++ ys) l (ls ++ ks) (os ++ ps) ≡ (Ok tt) = runnable_accepted c (xs ++ ys) l (ls ++ ks) (os ++ ps) (record {
       tables = r.tables;
       state = r.state;
       leaves = rw (length-append, length-append) (omega (arith, r.leaves, t.leaves));
       outputs = rw (length-append, length-append) (omega (arith, r.outputs, t.outputs));
     }) in
-    run_by c (xs ++ ys) l (ls ++ ks) (os ++ ps) (A.Done (n + m)) l'' (ls' ++ ks') (os' ++ ps')
-    (rw u (ap A.Done (rw length-append (omega (arith, done_scans c xs l ls os n l' ls' os' p, done_scans c ys l' ks ps m l'' ks' ps' q)))))
+    run_by c (xs ++ ys) l (ls ++ ks) (os ++ ps) (Ok (n + m)) l'' (ls' ++ ks') (os' ++ ps')
+    (rw u (ap Ok (rw length-append (omega (arith, done_scans c xs l ls os n l' ls' os' p, done_scans c ys l' ks ps m l'' ks' ps' q)))))
     (rw (u, after_append, ← mid) (rw w at q.state))
     (rw (u, trace_append, map-append, ← mid) (ap₂ ◌++◌ (rw v at p.leaves) (rw w at q.leaves)))
     (rw (u, trace_append, map-append, ← mid) (ap₂ ◌++◌ (rw v at p.outputs) (rw w at q.outputs)))
@@ -104,17 +101,21 @@ run_run c xs ys l ls os ks ps n m l' ls' os' l'' ks' ps' p q =
 -- ---- scan by scan
 
 -- a scan that is done is a run of one
-pub step_run : (c : Tables) (x : ℕ) (l : List ℕ) (a o : ℕ) (l' : List ℕ) (d e : ℕ) → ChartStepped c x l (S.Done a o) l' → ChartRan c (x ∷ []) l (d ∷ []) (e ∷ []) (A.Done 1) l' (a ∷ []) (o ∷ [])
+pub step_run : (c : Tables) (x : ℕ) (l : List ℕ) (a o : ℕ) (l' : List ℕ) (d e : ℕ) → ChartStepped c x l (Ok (step_told a o)) l' → ChartRan c (x ∷ []) l (d ∷ []) (e ∷ []) (Ok 1) l' (a ∷ []) (o ∷ [])
 unfolding answer left step_answer trace state_after_scans
 step_run c x l a o l' d e p =
-    let w : step_verdict c l ≡ Accepted = shown_accepted (step_verdict c l) (seen_in c (state_after_step c x (state_of c l))) a o p.answers in
-    let v : run_verdict c (x ∷ []) l (d ∷ []) (e ∷ []) ≡ Accepted = same_verdict c x l d e ∙ w in
-    let z : S.Done a o ≡ S.Done (seen_in c (state_after_step c x (state_of c l))).leaf (seen_in c (state_after_step c x (state_of c l))).outputs = rw w at p.answers in
-    run_by c (x ∷ []) l (d ∷ []) (e ∷ []) (A.Done 1) l' (a ∷ []) (o ∷ []) (rw v) (rw v (rw w at p.state)) (rw v (ap (λ n. n ∷ []) cc)) (rw v (ap (λ n. n ∷ []) cc))
+    let w : step_verdict c l ≡ (Ok tt) = shown_accepted (step_verdict c l) (seen_in c (state_after_step c x (state_of c l))) a o p.answers in
+    let v : run_verdict c (x ∷ []) l (d ∷ []) (e ∷ []) ≡ (Ok tt) = same_verdict c x l d e ∙ w in
+    let e' = seen_in c (state_after_step c x (state_of c l)) in
+    let z : Ok (step_told a o) ≡ Ok (step_told e'.leaf e'.outputs) = rw w at p.answers in
+    let y : step_told a o ≡ step_told e'.leaf e'.outputs = cc in
+    let leaf : a ≡ e'.leaf = ap (λ (r : Told). r.leaf) y in
+    let word : o ≡ e'.outputs = ap (λ (r : Told). r.outputs) y in
+    run_by c (x ∷ []) l (d ∷ []) (e ∷ []) (Ok 1) l' (a ∷ []) (o ∷ []) (rw v) (rw v (rw w at p.state)) (rw v (ap (λ n. n ∷ []) leaf)) (rw v (ap (λ n. n ∷ []) word))
 
 -- a run is a scan and then the run of the rest
 pub step_then_run : (c : Tables) (x : ℕ) (xs l : List ℕ) (a o : ℕ) (l' : List ℕ) (d e : ℕ) (ls os : List ℕ) (n : ℕ) (l'' ls' os' : List ℕ)
-    → ChartStepped c x l (S.Done a o) l' → ChartRan c xs l' ls os (A.Done n) l'' ls' os' → ChartRan c (x ∷ xs) l (d ∷ ls) (e ∷ os) (A.Done (1 + n)) l'' (a ∷ ls') (o ∷ os')
+    → ChartStepped c x l (Ok (step_told a o)) l' → ChartRan c xs l' ls os (Ok n) l'' ls' os' → ChartRan c (x ∷ xs) l (d ∷ ls) (e ∷ os) (Ok (1 + n)) l'' (a ∷ ls') (o ∷ os')
 step_then_run c x xs l a o l' d e ls os n l'' ls' os' p q = run_run c (x ∷ []) xs l (d ∷ []) (e ∷ []) ls os 1 n l' (a ∷ []) (o ∷ []) l'' ls' os' (step_run c x l a o l' d e p) q
 
 -- ---- "bits above the count have no effect"
@@ -141,18 +142,18 @@ module _ (c : Tables) (xs ys : List ℕ) (h : SameInputs c xs ys) (l ls os : Lis
   same_checks = rw h.scans
 
   -- a run answers and leaves the same for both
-  pub run_above : (r : Ran) (l' ls' os' : List ℕ) → ChartRan c xs l ls os r l' ls' os' → ChartRan c ys l ls os r l' ls' os'
+  pub run_above : (r : Answer) (l' ls' os' : List ℕ) → ChartRan c xs l ls os r l' ls' os' → ChartRan c ys l ls os r l' ls' os'
   run_above r l' ls' os' p = go (run_verdict c xs l ls os) refl
     where
       go : (v : Verdict) → run_verdict c xs l ls os ≡ v → ChartRan c ys l ls os r l' ls' os'
-      go Accepted e = unfold left answer in (
+      go (Ok tt) e = unfold left answer in (
           let t = same_trace c ((accepted_exactly c).0 (accepted_runnable c xs l ls os e).tables) xs ys (state_of c l) h in
           run_by c ys l ls os r l' ls' os'
           (rw (same_checks, ← h.scans) p.answers)
           (rw (same_checks, ← t.1) p.state)
           (rw (same_checks, ← t.0) p.leaves)
           (rw (same_checks, ← t.0) p.outputs))
-      go (Refused q) e = unfold left answer in
+      go (Err q) e = unfold left answer in
           (run_by c ys l ls os r l' ls' os'
           (rw (same_checks, e) (rw e at p.answers))
           (rw (same_checks, e) (rw e at p.state))
@@ -164,10 +165,10 @@ pub step_above : (c : Tables) (x y : ℕ) → ((i : ℕ) → 1 ≤ i → i ≤ c
 step_above c x y h l r l' p = go (step_verdict c l) refl
   where
     go : (v : Verdict) → step_verdict c l ≡ v → ChartStepped c y l r l'
-    go Accepted e = unfold chart_step_checks verdict in (
+    go (Ok tt) e = unfold chart_step_checks verdict in (
         let s = bits_above c ((accepted_exactly c).0 (front_accepted (checks c) (state_check c l ∷ []) e)) x y h (state_of c l) in
         record { answers = rw (← s) p.answers; state = rw (← s) p.state })
-    go (Refused q) e = unfold left step_answer in (record { answers = rw e (rw e at p.answers); state = rw e (rw e at p.state) })
+    go (Err q) e = unfold left step_answer in (record { answers = rw e (rw e at p.answers); state = rw e (rw e at p.state) })
 
 -- ---- from the cleared state
 
@@ -197,10 +198,10 @@ module _ (c : Tables) (K : Rules c) where
   cleared_start = rw zeros (zero_start c K)
 
 -- demand 3 of a run from the cleared state: leaves and output words are those that the inputs and the earlier leaves call for
-pub cleared_run : (c : Tables) (xs ls os : List ℕ) (n : ℕ) (l' ls' os' : List ℕ) → ChartRan c xs (cleared_for c) ls os (A.Done n) l' ls' os'
+pub cleared_run : (c : Tables) (xs ls os : List ℕ) (n : ℕ) (l' ls' os' : List ℕ) → ChartRan c xs (cleared_for c) ls os (Ok n) l' ls' os'
     → (ls' ≡ map (λ (e : Seen). e.leaf) (history_reading c xs)) × (os' ≡ map (λ (e : Seen). e.outputs) (history_reading c xs))
 unfolding left
 cleared_run c xs ls os n l' ls' os' p =
-    let v : run_verdict c xs (cleared_for c) ls os ≡ Accepted = done_accepted (run_verdict c xs (cleared_for c) ls os) n (length xs) p.answers in
+    let v : run_verdict c xs (cleared_for c) ls os ≡ (Ok tt) = done_accepted (run_verdict c xs (cleared_for c) ls os) n (length xs) p.answers in
     let K : Rules c = (accepted_exactly c).0 (accepted_runnable c xs (cleared_for c) ls os v).tables in
     (rw (← run_is_reading c K xs, ← cleared_start c K) (rw v at p.leaves), rw (← run_is_reading c K xs, ← cleared_start c K) (rw v at p.outputs))

@@ -1,5 +1,7 @@
 -- One scan and many: a scan is a run of one.
-use Rattle.std.specs.Prelude.{◌≡◌, refl, ℕ, get_or, eqb}
+use Rattle.meaning.specs.Refusals.{Answer}
+use Rattle.meaning.specs.Refusals.{Verdict}
+use Rattle.std.specs.Prelude.{◌≡◌, refl, ℕ, get_or, eqb, Ok, Err}
 use Rattle.std.proofs.Math.Path.{sym}
 use Rattle.std.proofs.Common.{◌∙◌, inl, inr}
 use mathlib.Core.List.{List, [], ◌∷◌, ◌++◌}
@@ -10,30 +12,25 @@ use Rattle.meaning.specs.Check.{Check, first_failing, verdict_of, checks}
 use Rattle.meaning.specs.Calls.{state_check, scans_check, chart_run_checks}
 use Rattle.meaning.specs.Machine.{Seen, trace, state_after_scans}
 use Rattle.meaning.specs.declared.Refusal.{Refusal}
-use Rattle.meaning.specs.declared.Verdict.{Verdict}
-use Rattle.meaning.specs.declared.Verdict.TheVariants.{Accepted, Refused}
-use Rattle.meaning.specs.declared.Ran.{Ran}
-use Rattle.meaning.specs.declared.Ran.TheVariants as A
 use Rattle.chart_lent.specs.Slice.{answer, left}
 use Rattle.chart_calls.specs.Runs.{run_verdict, ChartRan}
-use Rattle.chart_calls.specs.Steps.{chart_step_checks, step_verdict, step_answer, ChartStepped}
-use Rattle.chart_calls.specs.declared.Stepped.TheVariants as S
+use Rattle.chart_calls.specs.Steps.{chart_step_checks, step_verdict, step_told, step_answer, ChartStepped}
 
 -- the answer tells the verdict
-pub done_accepted : (v : Verdict) (n m : ℕ) → A.Done n ≡ answer m v → v ≡ Accepted
+pub done_accepted : (v : Verdict) (n m : ℕ) → Ok n ≡ answer m v → v ≡ (Ok tt)
 unfolding answer
-done_accepted Accepted n m e = refl
-done_accepted (Refused r) n m e = (let z : A.Done n ≡ A.Refused r = e in cc)
+done_accepted (Ok tt) n m e = refl
+done_accepted (Err r) n m e = (let z : Ok n ≡ Err r = e in cc)
 
-pub refused_refused : (v : Verdict) (m : ℕ) (r : Refusal) → A.Refused r ≡ answer m v → v ≡ Refused r
+pub refused_refused : (v : Verdict) (m : ℕ) (r : Refusal) → Err r ≡ answer m v → v ≡ Err r
 unfolding answer
-refused_refused Accepted m r e = (let z : A.Refused r ≡ A.Done m = e in cc)
-refused_refused (Refused s) m r e = (let z : A.Refused r ≡ A.Refused s = e in cc)
+refused_refused (Ok tt) m r e = (let z : Err r ≡ Ok m = e in cc)
+refused_refused (Err s) m r e = (let z : Err r ≡ Err s = e in cc)
 
-pub shown_accepted : (v : Verdict) (s : Seen) (a o : ℕ) → S.Done a o ≡ step_answer s v → v ≡ Accepted
+pub shown_accepted : (v : Verdict) (s : Seen) (a o : ℕ) → Ok (step_told a o) ≡ step_answer s v → v ≡ (Ok tt)
 unfolding step_answer
-shown_accepted Accepted s a o e = refl
-shown_accepted (Refused r) s a o e = (let z : S.Done a o ≡ S.Refused r = e in cc)
+shown_accepted (Ok tt) s a o e = refl
+shown_accepted (Err r) s a o e = (let z : Ok (step_told a o) ≡ Err r = e in cc)
 
 -- what decides after the same checks
 same_after : (ks js is : List Check) → verdict_of js ≡ verdict_of is → verdict_of (ks ++ js) ≡ verdict_of (ks ++ is)
@@ -51,17 +48,17 @@ module _ (c : Tables) (x : ℕ) (l : List ℕ) (a b : ℕ) where
   same_verdict = same_after (checks c) _ _ (same_after (state_check c l ∷ []) (scans_check 1 1 ∷ scans_check 1 1 ∷ []) [] refl)
 
   -- a run of one scan that is done
-  pub done_one : (r : Ran) (n : ℕ) (l' ls' os' : List ℕ) → r ≡ A.Done n → ChartRan c (x ∷ []) l (a ∷ []) (b ∷ []) r l' ls' os' → ChartStepped c x l (S.Done (get_or ls' 0 0) (get_or os' 0 0)) l'
+  pub done_one : (r : Answer) (n : ℕ) (l' ls' os' : List ℕ) → r ≡ Ok n → ChartRan c (x ∷ []) l (a ∷ []) (b ∷ []) r l' ls' os' → ChartStepped c x l (Ok (step_told (get_or ls' 0 0) (get_or os' 0 0))) l'
   unfolding step_answer left trace state_after_scans
   done_one r n l' ls' os' e p =
       let v = done_accepted (run_verdict c (x ∷ []) l (a ∷ []) (b ∷ [])) n 1 (sym e ∙ p.answers) in
-      let w : step_verdict c l ≡ Accepted = sym same_verdict ∙ v in
+      let w : step_verdict c l ≡ (Ok tt) = sym same_verdict ∙ v in
       record { answers = rw (w, p.leaves, p.outputs, v); state = rw w (rw v at p.state) }
 
   -- and one that is refused
-  pub refused_one : (r : Ran) (q : Refusal) (l' ls' os' : List ℕ) → r ≡ A.Refused q → ChartRan c (x ∷ []) l (a ∷ []) (b ∷ []) r l' ls' os' → ChartStepped c x l (S.Refused q) l'
+  pub refused_one : (r : Answer) (q : Refusal) (l' ls' os' : List ℕ) → r ≡ Err q → ChartRan c (x ∷ []) l (a ∷ []) (b ∷ []) r l' ls' os' → ChartStepped c x l (Err q) l'
   unfolding step_answer left
   refused_one r q l' ls' os' e p =
       let v = refused_refused (run_verdict c (x ∷ []) l (a ∷ []) (b ∷ [])) 1 q (sym e ∙ p.answers) in
-      let w : step_verdict c l ≡ Refused q = sym same_verdict ∙ v in
+      let w : step_verdict c l ≡ Err q = sym same_verdict ∙ v in
       record { answers = rw w; state = rw w (rw v at p.state) }

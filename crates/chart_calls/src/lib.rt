@@ -2,90 +2,45 @@
 // refused, in document 01's order.
 #![tactic(auto)]
 
-ghost use Rattle.tables.specs.Given.{tables_of};
+ghost use Rattle.tables.specs.Given.{given};
 ghost use Rattle.chart_calls.specs.Runs.{ChartRan};
 ghost use Rattle.chart_calls.specs.Steps.{ChartStepped};
 
-use meaning::{Ran, Refusal, Verdict};
-use tables::Chart;
+use meaning::Refusal;
+use tables::ChartTables;
 
 // The run of any tables over lent state, one scan for each input word, or why there is none.
 pub fn run_chart(
-    chart: Chart,
-    states: &[u16],
-    moves: &[i16],
-    presets: &[u32],
-    timer_pairs: &[u16],
-    output_pairs: &[u16],
+    t: &ChartTables<'_>,
     state: &mut [u32],
     inputs: &[u64],
     leaves: &mut [u16],
     outputs: &mut [u64],
-) -> Ran
-    ensures { ChartRan (tables_of chart states.now moves.now presets.now
-        timer_pairs.now output_pairs.now) inputs.now state.old
-        leaves.old outputs.old result state.new leaves.new
+) -> Result<usize, Refusal>
+    ensures { ChartRan (given t.now) inputs.now state.old leaves.old outputs.old result state.new leaves.new
         outputs.new }
 {
-    let v = check_tables::check(chart, states, moves, presets, timer_pairs, output_pairs);
-    match v {
-        Verdict::Refused(r) => Ran::Refused(r),
-        Verdict::Accepted => chart_lent::run_checked(
-            chart,
-            states,
-            moves,
-            presets,
-            timer_pairs,
-            output_pairs,
-            state,
-            inputs,
-            leaves,
-            outputs,
-        ),
-    }
+    check_tables::check(t)?;
+    chart_lent::run_checked(t, state, inputs, leaves, outputs)
 }
 
-// One scan answers what is seen after it: the active leaf and the output word.
+// What is seen after a scan: the active leaf and the output word.
 #[derive(Clone, Copy)]
-pub enum Stepped {
-    Done { leaf: u16, outputs: u64 },
-    Refused(Refusal),
+pub struct StepSeen {
+    pub leaf: u16,
+    pub outputs: u64,
 }
 
 // A scan is a run of one, with room for one leaf and one output word, so that SCANS cannot be given.
-pub fn step_chart(
-    chart: Chart,
-    states: &[u16],
-    moves: &[i16],
-    presets: &[u32],
-    timer_pairs: &[u16],
-    output_pairs: &[u16],
-    state: &mut [u32],
-    x: u64,
-) -> Stepped
-    ensures { ChartStepped (tables_of chart states.now moves.now presets.now
-        timer_pairs.now output_pairs.now) x state.old result state.new }
+pub fn step_chart(t: &ChartTables<'_>, state: &mut [u32], x: u64) -> Result<StepSeen, Refusal>
+    ensures { ChartStepped (given t.now) x state.old result state.new }
 {
-    let inputs = [x; 1];
-    let mut leaves = [0u16; 1];
-    let mut outputs = [0u64; 1];
-    let ran = run_chart(
-        chart,
-        states,
-        moves,
-        presets,
-        timer_pairs,
-        output_pairs,
-        state,
-        &inputs,
-        &mut leaves,
-        &mut outputs,
-    );
-    match ran {
-        Ran::Done(_) => Stepped::Done {
-            leaf: leaves[0],
-            outputs: outputs[0],
-        },
-        Ran::Refused(r) => Stepped::Refused(r),
-    }
+    let inputs = [x];
+    let mut leaves = [0];
+    let mut outputs = [0];
+    run_chart(t, state, &inputs, &mut leaves, &mut outputs)?;
+    Ok(StepSeen {
+        leaf: leaves[0],
+        outputs: outputs[0],
+    })
 }

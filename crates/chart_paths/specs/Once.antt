@@ -1,10 +1,13 @@
 -- No second answer of any function of this crate. Words past the chart's states, and bits past its presets, are not seen.
-use Rattle.std.specs.Prelude.{◌≡◌, List, ℕ, suc, ◌<◌, ◌≤◌, length}
+use Rattle.std.specs.Prelude.{◌≡◌, List, ℕ, suc, ◌<◌, ◌≤◌}
 use Rattle.std.proofs.Common.{sym, ◌∙◌}
 use Rattle.meaning.specs.Once.{Once, OnceSeen}
 use Rattle.meaning.proofs.Laws.Once.{is_once}
+use Rattle.meaning.specs.Tables.{timer_count}
 use Rattle.meaning.specs.Machine.{remembered}
 use Rattle.meaning.specs.Literals.{input_on}
+use Rattle.tables.specs.declared.ChartTables.{ChartTables}
+use Rattle.tables.specs.Given.{given}
 use Rattle.chart_paths.specs.Walk.{walk}
 use Rattle.chart_paths.specs.Words.{expired_at}
 
@@ -17,6 +20,6 @@ active_leaf_once m = is_once (walk (remembered m) 8 0)
 pub bit_at_once : (w i : ℕ) → Once (λ r. r ≡ input_on w (suc i))
 bit_at_once w i = is_once (input_on w (suc i))
 
-pub expired_of_once : (ps : List ℕ) (w : ℕ) (ts : List ℕ) (k : ℕ) → length ps ≤ 32 → k < length ps
-    → OnceSeen (λ r. input_on r (suc k)) (λ r. length ps ≤ 32 → (i : ℕ) → i < length ps → input_on r (suc i) ≡ expired_at ps w ts i)
-expired_of_once ps w ts k f h x y p q = p f k h ∙ sym (q f k h)
+pub expired_of_once : (t : ChartTables) (w : ℕ) (ts : List ℕ) (k : ℕ) → timer_count (given t) ≤ 32 → k < timer_count (given t)
+    → OnceSeen (λ r. input_on r (suc k)) (λ r. timer_count (given t) ≤ 32 → (i : ℕ) → i < timer_count (given t) → input_on r (suc i) ≡ expired_at (given t).presets w ts i)
+expired_of_once t w ts k f h x y p q = p f k h ∙ sym (q f k h)

@@ -1,19 +1,21 @@
 // What the active path tells, for any tables at all: the leaf, and which timers are expired.
 #![tactic(auto)]
 
-ghost use Rattle.std.specs.Prelude.{◌≡◌, ◌&&◌, ◌||◌, eqb, ℕ, suc, ◌<◌, ◌≤◌, length};
+ghost use Rattle.std.specs.Prelude.{◌≡◌, ◌&&◌, ◌||◌, eqb, ℕ, suc, ◌<◌, ◌≤◌};
+ghost use Rattle.meaning.specs.Tables.{timer_count};
 ghost use Rattle.meaning.specs.Machine.{remembered};
 ghost use Rattle.meaning.specs.Literals.{input_on};
 ghost use Rattle.chart_paths.specs.Walk.{walk};
 ghost use Rattle.chart_paths.specs.Words.{expired_at};
+ghost use Rattle.tables.specs.Given.{given};
 
-use tables::Chart;
+use tables::{Chart, ChartTables};
 
 // The sub-state remembered of a.
 pub fn remembered(memory: &[u16], a: usize) -> usize
     ensures { result ≡ remembered memory.now a }
 {
-    slices::number(memory, a) as usize
+    usize::from(slices::at(memory, a, 0))
 }
 
 // "Following these from the root gives the active path and the active leaf." A leaf remembers 0.
@@ -21,14 +23,12 @@ pub fn active_leaf(memory: &[u16]) -> usize
     ensures { result ≡ walk (remembered memory.now) 8 0 }
 {
     let mut s = 0;
-    let mut k = 0;
-    while k < Chart::DEPTH {
+    for k in 0..Chart::DEPTH {
         let below = remembered(memory, s);
         if below == 0 {
             return s;
         }
         s = below;
-        k += 1;
     }
     s
 }
@@ -44,14 +44,11 @@ pub fn bit_at(w: u64, i: usize) -> bool
 }
 
 // The timer of row i is number i + 1.
-fn is_expired(presets: &[u32], running: u64, timers: &[u32], i: usize) -> bool
+fn is_expired(t: &ChartTables<'_>, running: u64, timers: &[u32], i: usize) -> bool
     requires { i < 32 }
-    ensures { result ≡ expired_at presets.now running timers.now i }
+    ensures { result ≡ expired_at (given t.now).presets running timers.now i }
 {
-    if bit_at(running, i) {
-        return slices::value(presets, i) <= slices::value(timers, i);
-    }
-    false
+    bit_at(running, i) && slices::at(t.presets, i, 0) <= slices::at(timers, i, 0)
 }
 
 // The word with number i + 1 too, if b.
@@ -59,26 +56,17 @@ fn with_bit_if(w: u64, i: usize, b: bool) -> u64
     requires { i < 64 }
     ensures { (j : ℕ) → input_on result (suc j) ≡ (input_on w (suc j) || (eqb i j && b)) }
 {
-    if b {
-        return slices::with_number(w, i + 1);
-    }
-    w
+    if b { slices::with_number(w, i + 1) } else { w }
 }
 
 // "It is expired when it runs and is at least its preset."
-pub fn expired_of(presets: &[u32], running: u64, timers: &[u32]) -> u64
-    ensures { length presets.now ≤ 32 → (i : ℕ) → i < length presets.now
-        → input_on result (suc i) ≡ expired_at presets.now running timers.now i }
+pub fn expired_of(t: &ChartTables<'_>, running: u64, timers: &[u32]) -> u64
+    ensures { timer_count (given t.now) ≤ 32 → (i : ℕ) → i < timer_count (given t.now)
+        → input_on result (suc i) ≡ expired_at (given t.now).presets running timers.now i }
 {
     let mut word = 0u64;
-    if Chart::TIMERS < presets.len() {
-        return word;
-    }
-    let mut i = 0;
-    while i < presets.len() {
-        let b = is_expired(presets, running, timers, i);
-        word = with_bit_if(word, i, b);
-        i += 1;
+    for i in 0..t.timer_count().min(Chart::TIMERS) {
+        word = with_bit_if(word, i, is_expired(t, running, timers, i));
     }
     word
 }

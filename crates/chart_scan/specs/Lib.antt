@@ -3,4 +3,5 @@ pub mod LinkLaws
 pub mod Once
 pub mod WidestLaws
 pub mod Held
+pub mod Making
 pub mod StepLaws

@@ -1,5 +1,5 @@
 -- The moves from one state, linked.
-use Rattle.std.specs.Prelude.{◌≡◌, true, ◌&&◌, get_or}
+use Rattle.std.specs.Prelude.{◌≡◌, true, ◌&&◌, get_or, Option, Some, None}
 use Rattle.std.proofs.Math.Path.{refl, sym, ap}
 use Rattle.std.proofs.Common.{◌∙◌, get_or-set_same}
 use Rattle.std.proofs.Math.Logic.{inl, inr}
@@ -20,7 +20,7 @@ use Rattle.meaning.specs.Literals.{Setting, literals_hold}
 use Rattle.meaning.specs.Rules.{Rules}
 use Rattle.meaning.specs.Machine.{enabled, chosen}
 use Rattle.meaning.proofs.Laws.Overlap.{enabled_chosen, none_chosen}
-use Rattle.chart_scan.specs.Choice.{last_from, last_holding, LinkedTo}
+use Rattle.chart_scan.specs.Choice.{last_from, last_holding, LinkedTo, move_of, MoveIs}
 
 pub source_known : (c : Tables) → Rules c → (i : ℕ) → i < move_count c → source c i < most_states
 unfolding source
@@ -29,6 +29,11 @@ source_known c R i h = let r = (R.moves i h).from_known in rw r.1 (omega (arith,
 -- above the root there is only the root
 pub root_stays : (c : Tables) → Rules c → (k m l : ℕ) → up c k l ≡ 0 → k ≤ m → up c m l ≡ 0
 root_stays c R k m l e h = depth_zero c R (up c m l) (depth_up c R m l ∙ (let z : depth c l - k ≡ 0 = sym (depth_up c R k l) ∙ ap (depth c) e ∙ depth_root c R in omega arith))
+
+-- a move, if there is one, by its number
+pub move_of_is : (c : Tables) (x : ℕ) (r : Option ℕ) → MoveIs c x r → move_of c r ≡ x
+move_of_is c x None e = sym e
+move_of_is c x (Some i) e = e.1
 
 module _ (c : Tables) where
   pub last_le : (s n : ℕ) → last_from c s n ≤ n
@@ -46,8 +51,8 @@ module _ (c : Tables) where
   ]
 
   -- the link behind a move
-  pub next_link : (n : ℕ) (l : List ℕ) → LinkedTo c n l → (s i j : ℕ) → i < n → source c i ≡ s → j ≡ suc i → get_or l (255 + j) 0 ≡ last_from c s i
-  next_link n l f s i j h e g = let z : 255 + j ≡ 256 + i = omega arith in rw (z, ← e) (f.1 i h)
+  pub next_link : (n : ℕ) (l : List ℕ) → LinkedTo c n l → (s i : ℕ) → i < n → source c i ≡ s → get_or l (256 + i) 0 ≡ last_from c s i
+  next_link n l f s i h e = rw (← e) (f.1 i h)
 
   -- one move more
   pub linked_more : (n : ℕ) (l : List ℕ) → n < 512 → 768 ≤ length l → source c n < 256 → LinkedTo c n l

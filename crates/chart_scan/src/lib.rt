@@ -6,206 +6,188 @@ ghost use Rattle.std.specs.Prelude.{◌≡◌, ℕ, suc, ◌<◌, ◌≤◌, ◌
 ghost use Rattle.meaning.specs.Tables.{Tables, move_count, source, state_count};
 ghost use Rattle.meaning.specs.Rules.{Rules};
 ghost use Rattle.meaning.specs.Machine.{chosen, active_leaf, memory_after_move, state_after_step, Valid};
-ghost use Rattle.chart_scan.specs.Choice.{read, HoldTo, last_holding, LinkedTo};
+ghost use Rattle.chart_scan.specs.Choice.{read, HoldTo, last_holding, LinkedTo, counted, move_of, MoveIs};
 ghost use Rattle.check_needs.specs.Words.{need_words};
 ghost use Rattle.check_needs.specs.WordsLaws.{Small};
+ghost use Rattle.tables.specs.Given.{given};
+ghost use Rattle.chart_scan.specs.Making.{MadeFor};
 ghost use Rattle.check_pairing.specs.Words.{PairedWords};
-ghost use Rattle.chart_scan.specs.Held.{TablesGiven, Made, Empty, StateScanned, MemorySound, held};
+ghost use Rattle.chart_scan.specs.Held.{Empty, StateScanned, MemorySound, held};
 
 use check_needs::ThingWords;
-use tables::Chart;
+use tables::{Chart, ChartTables};
 
 // ---- once for all scans
 
-// What the moves need: those of an accepted chart pass too with as many inputs and timers as there may be.
-pub fn make_needs(moves: &[i16], needs: &mut [u64])
-    ensures { (c : Tables) → c.moves ≡ moves.now → Rules c
-        → move_count c ≤ length needs.old / need_words → HoldTo c (move_count c) needs.new }
+// What the moves need: those of an accepted chart pass, and so the words of each are its needs.
+pub fn make_needs(t: &ChartTables<'_>, needs: &mut [u64])
+    ensures { Rules (given t.now) → move_count (given t.now) ≤ length needs.old / need_words
+        → HoldTo (given t.now) (move_count (given t.now)) needs.new }
 {
-    check_literals::fill(Chart::INPUTS, Chart::TIMERS, moves, needs);
+    check_literals::fill(t, needs);
 }
 
-fn link(moves: &[i16], i: usize, links: &mut [u16])
+// As many as there may be states and moves.
+const LINKS: usize = Chart::STATES + Chart::MOVES;
+
+// Move i is now the last from its source, and the one that was is behind it.
+fn link(t: &ChartTables<'_>, i: usize, links: &mut [u16])
     requires { i < 512 }
-    ensures { (c : Tables) → c.moves ≡ moves.now → source c i < 256
-        → 768 ≤ length links.old → links.new ≡ set
-        (set links.old (256 + i) (get_or links.old (source c i) 0)) (source c i) (suc i) }
+    ensures { source (given t.now) i < 256 → 768 ≤ length links.old → links.new
+        ≡ set (set links.old (256 + i) (get_or links.old (source (given t.now) i) 0))
+        (source (given t.now) i) (suc i) }
 {
-    let s = tables::source(moves, i);
-    if 255 < s {
-        return;
+    let s = t.source(i);
+    if s < Chart::STATES && LINKS <= links.len() {
+        links[Chart::STATES + i] = links[s];
+        links[s] = (i + 1) as u16;
     }
-    if links.len() < 768 {
-        return;
-    }
-    links[256 + i] = links[s];
-    links[s] = (i + 1) as u16;
 }
 
 // The moves by their source: at s the last from state s, and at 256 + i the one before move i from the same state. They
-// count from 1 here, and 0 is none.
-pub fn make_links(moves: &[i16], links: &mut [u16])
-    ensures { (c : Tables) → c.moves ≡ moves.now → Rules c → 768 ≤ length links.old
-        → ((s : ℕ) → get_or links.old s 0 ≡ 0) → LinkedTo c (move_count c) links.new }
+// count from 1 here, and 0 is none: an Option of each would take twice the memory, which is fixed.
+pub fn make_links(t: &ChartTables<'_>, links: &mut [u16])
+    ensures { Rules (given t.now) → 768 ≤ length links.old
+        → ((s : ℕ) → get_or links.old s 0 ≡ 0)
+        → LinkedTo (given t.now) (move_count (given t.now)) links.new }
 {
-    let mut i = 0;
-    while i < moves.len() / Chart::MOVE_ROW {
-        if Chart::MOVES <= i {
-            return;
-        }
-        link(moves, i, links);
-        i += 1;
+    for i in 0..t.move_count().min(Chart::MOVES) {
+        link(t, i, links);
     }
 }
 
 // ---- each scan
 
-// The move from state s whose literals hold, counted from 1; 0 if there is none.
-fn chosen_from(links: &[u16], needs: &[u64], s: usize, on: ThingWords) -> usize
+// The move from state s whose literals hold.
+fn chosen_from(links: &[u16], needs: &[u64], s: usize, on: ThingWords) -> Option<usize>
     ensures { (c : Tables) → Rules c → LinkedTo c (move_count c) links.now
         → HoldTo c (move_count c) needs.now → move_count c ≤ length needs.now / need_words → s < 256
-        → Small on → result ≡ last_holding c (read on) s (move_count c) }
+        → Small on → counted result ≡ last_holding c (read on) s (move_count c) }
 {
-    let mut j = slices::number(links, s) as usize;
+    let mut j = usize::from(slices::at(links, s, 0));
+    // along the links: a `for` would count turns for nothing
     while 0 < j {
-        if check_needs::hold(check_needs::needs_at(needs, j - 1), on) {
-            return j;
+        let i = j - 1;
+        if check_needs::hold(check_needs::needs_at(needs, i), on) {
+            return Some(i);
         }
-        let next = slices::number(links, 255 + j) as usize;
+        let next = usize::from(slices::at(links, Chart::STATES + i, 0));
         if j <= next {
-            return 0;
+            return None;
         }
         j = next;
     }
-    0
+    None
 }
 
-// "An accepted chart never has two enabled": so the path is gone up from the leaf l, whatever the moves' order. The
-// number of moves if there is none.
+// "An accepted chart never has two enabled": so the path is gone up from the leaf l, whatever the moves' order.
 pub fn chosen(
-    states: &[u16],
-    moves: &[i16],
+    t: &ChartTables<'_>,
     links: &[u16],
     needs: &[u64],
     l: usize,
     on: ThingWords,
-) -> usize
-    ensures { (c : Tables) → c.states ≡ states.now → c.moves ≡ moves.now → Rules c
-        → LinkedTo c (move_count c) links.now → HoldTo c (move_count c) needs.now
-        → move_count c ≤ length needs.now / need_words → l < 256 → Small on → result ≡ chosen c (read on) l }
+) -> Option<usize>
+    ensures { Rules (given t.now) → LinkedTo (given t.now) (move_count (given t.now)) links.now
+        → HoldTo (given t.now) (move_count (given t.now)) needs.now
+        → move_count (given t.now) ≤ length needs.now / need_words → l < 256 → Small on
+        → MoveIs (given t.now) (chosen (given t.now) (read on) l) result }
 {
     let mut s = l;
-    let mut k = 0;
-    while k <= Chart::DEPTH {
-        let j = chosen_from(links, needs, s, on);
-        if 0 < j {
-            return j - 1;
+    for k in 0..Chart::DEPTH + 1 {
+        if let Some(i) = chosen_from(links, needs, s, on) {
+            return Some(i);
         }
         if s == 0 {
-            return moves.len() / Chart::MOVE_ROW;
+            return None;
         }
-        s = tables::super_state(states, s);
-        k += 1;
+        s = t.super_state(s);
     }
-    moves.len() / Chart::MOVE_ROW
+    None
 }
 
-// The leaf after move i from the leaf l: "with none, the state stays".
-fn leaf_after(states: &[u16], moves: &[i16], i: usize, l: usize, memory: &mut [u16]) -> usize
-    ensures { (c : Tables) → c.states ≡ states.now → c.moves ≡ moves.now → Rules c
-        → state_count c ≤ length memory.old → l ≡ active_leaf c (take (state_count c) memory.old)
-        → (take (state_count c) memory.new ≡ cond (ltb i (move_count c))
-        (memory_after_move c i (take (state_count c) memory.old)) (take (state_count c) memory.old))
-        × (MemorySound c (take (state_count c) memory.new)
-        → result ≡ active_leaf c (take (state_count c) memory.new)) }
+// The leaf after a move, if there is one, from the leaf l: "with none, the state stays".
+fn leaf_after(t: &ChartTables<'_>, enabled: Option<usize>, l: usize, memory: &mut [u16]) -> usize
+    ensures { Rules (given t.now) → state_count (given t.now) ≤ length memory.old
+        → l ≡ active_leaf (given t.now) (take (state_count (given t.now)) memory.old)
+        → (take (state_count (given t.now)) memory.new
+        ≡ cond (ltb (move_of (given t.now) enabled) (move_count (given t.now)))
+        (memory_after_move (given t.now) (move_of (given t.now) enabled)
+        (take (state_count (given t.now)) memory.old))
+        (take (state_count (given t.now)) memory.old))
+        × (MemorySound (given t.now) (take (state_count (given t.now)) memory.new)
+        → result ≡ active_leaf (given t.now) (take (state_count (given t.now)) memory.new)) }
 {
-    if moves.len() / Chart::MOVE_ROW <= i {
+    let Some(i) = enabled else {
         return l;
-    }
-    chart_moving::enter(states, moves, i, memory);
+    };
+    chart_moving::enter(t, i, memory);
     chart_paths::active_leaf(memory)
 }
 
-// What is made once for all scans is lent: of each state the timers that run in it, the moves by their source, the
-// literals as words, N scan steps of each timer. One scan: what has expired is judged before the move, and a timer
-// goes on if it ran before and runs after it. From the leaf l it answers the next.
+// What is made once for all scans: of each state the timers that run in it, the moves by their source, the literals as
+// words, N scan steps of each timer.
+#[derive(Clone, Copy)]
+struct MadeOnce<'a> {
+    runs: &'a [u64],
+    links: &'a [u16],
+    needs: &'a [u64],
+    most: &'a [u32],
+}
+
+// One scan: what has expired is judged before the move, and a timer goes on if it ran before and runs after it. From
+// the leaf l it answers the next.
 fn scan(
-    chart: Chart,
-    states: &[u16],
-    moves: &[i16],
-    presets: &[u32],
-    runs: &[u64],
-    links: &[u16],
-    needs: &[u64],
-    most: &[u32],
+    t: &ChartTables<'_>,
+    made: &MadeOnce<'_>,
     memory: &mut [u16],
     timers: &mut [u32],
     l: usize,
     x: u64,
 ) -> usize
-    ensures { (c : Tables) → c.scan_step ≡ chart.step → c.states ≡ states.now
-        → c.moves ≡ moves.now → c.presets ≡ presets.now → Rules c
-        → Made c runs.now links.now needs.now most.now
-        → state_count c ≤ length memory.old → length timers.old ≡ 32
-        → Valid c (held c memory.old timers.old)
-        → l ≡ active_leaf c (take (state_count c) memory.old)
-        → (held c memory.new timers.new ≡ state_after_step c x
-        (held c memory.old timers.old))
-        × (result ≡ active_leaf c (take (state_count c) memory.new)) }
+    ensures { Rules (given t.now) → MadeFor (given t.now) made.now
+        → state_count (given t.now) ≤ length memory.old → length timers.old ≡ 32
+        → Valid (given t.now) (held (given t.now) memory.old timers.old)
+        → l ≡ active_leaf (given t.now) (take (state_count (given t.now)) memory.old)
+        → (held (given t.now) memory.new timers.new
+        ≡ state_after_step (given t.now) x (held (given t.now) memory.old timers.old))
+        × (result ≡ active_leaf (given t.now) (take (state_count (given t.now)) memory.new)) }
 {
-    let ran = slices::word(runs, l);
-    let y = chart_paths::expired_of(presets, ran, timers);
+    let ran = slices::at(made.runs, l, 0);
     let on = ThingWords {
         inputs: x,
-        timers: y,
+        timers: chart_paths::expired_of(t, ran, timers),
     };
-    let i = chosen(states, moves, links, needs, l, on);
-    let next = leaf_after(states, moves, i, l, memory);
-    chart_timers::time(
-        chart.step,
-        most,
-        ran & slices::word(runs, next),
-        presets.len(),
-        timers,
-    );
+    let enabled = chosen(t, made.links, made.needs, l, on);
+    let next = leaf_after(t, enabled, l, memory);
+    chart_timers::time(t, made.most, ran & slices::at(made.runs, next, 0), timers);
     next
 }
 
 // The scans, one after the other.
 fn run_made(
-    chart: Chart,
-    states: &[u16],
-    moves: &[i16],
-    presets: &[u32],
-    runs: &[u64],
+    t: &ChartTables<'_>,
+    made: &MadeOnce<'_>,
     shows: &[u64],
-    links: &[u16],
-    needs: &[u64],
-    most: &[u32],
     memory: &mut [u16],
     timers: &mut [u32],
     inputs: &[u64],
     leaves: &mut [u16],
     outputs: &mut [u64],
 )
-    ensures { (c : Tables) → c.scan_step ≡ chart.step → c.states ≡ states.now
-        → c.moves ≡ moves.now → c.presets ≡ presets.now → Rules c
-        → Made c runs.now links.now needs.now most.now
-        → PairedWords c c.output_pairs shows.now → state_count c ≤ length memory.old
-        → length timers.old ≡ 32 → Valid c (held c memory.old timers.old)
+    ensures { Rules (given t.now) → MadeFor (given t.now) made.now
+        → PairedWords (given t.now) (given t.now).output_pairs shows.now
+        → state_count (given t.now) ≤ length memory.old → length timers.old ≡ 32
+        → Valid (given t.now) (held (given t.now) memory.old timers.old)
         → length leaves.old ≡ length inputs.now
         → length outputs.old ≡ length inputs.now
-        → StateScanned c (held c memory.old timers.old) inputs.now
-        (held c memory.new timers.new) leaves.new outputs.new }
+        → StateScanned (given t.now) (held (given t.now) memory.old timers.old) inputs.now
+        (held (given t.now) memory.new timers.new) leaves.new outputs.new }
 {
     let mut l = chart_paths::active_leaf(memory);
-    let mut i = 0;
-    while i < inputs.len() {
-        l = scan(
-            chart, states, moves, presets, runs, links, needs, most, memory, timers, l, inputs[i],
-        );
+    for (i, &x) in inputs.iter().enumerate() {
+        l = scan(t, made, memory, timers, l, x);
         chart_seen::show(shows, l, i, leaves, outputs);
-        i += 1;
     }
 }
 
@@ -213,11 +195,7 @@ fn run_made(
 // state, a leaf's is 0; and a value in ms for each timer. Of what the scans share, the timers that run in each state
 // are lent too; the rest is made here.
 pub fn run(
-    chart: Chart,
-    states: &[u16],
-    moves: &[i16],
-    presets: &[u32],
-    output_pairs: &[u16],
+    t: &ChartTables<'_>,
     runs: &[u64],
     shows: &mut [u64],
     needs: &mut [u64],
@@ -227,23 +205,25 @@ pub fn run(
     leaves: &mut [u16],
     outputs: &mut [u64],
 )
-    ensures { (c : Tables) → TablesGiven c chart.step chart.outputs states.now
-        moves.now presets.now c.timer_pairs output_pairs.now → Rules c
-        → PairedWords c c.timer_pairs runs.now → Empty c shows.old needs.old
-        → state_count c ≤ length memory.old → length timers.old ≡ 32
-        → Valid c (held c memory.old timers.old)
+    ensures { Rules (given t.now) → PairedWords (given t.now) (given t.now).timer_pairs runs.now
+        → Empty (given t.now) shows.old needs.old
+        → state_count (given t.now) ≤ length memory.old → length timers.old ≡ 32
+        → Valid (given t.now) (held (given t.now) memory.old timers.old)
         → length leaves.old ≡ length inputs.now
         → length outputs.old ≡ length inputs.now
-        → StateScanned c (held c memory.old timers.old) inputs.now
-        (held c memory.new timers.new) leaves.new outputs.new }
+        → StateScanned (given t.now) (held (given t.now) memory.old timers.old) inputs.now
+        (held (given t.now) memory.new timers.new) leaves.new outputs.new }
 {
-    check_pairing::paired_words(states, output_pairs, shows);
-    make_needs(moves, needs);
-    let mut links = [0u16; 768];
-    make_links(moves, &mut links);
-    let most = chart_timers::longest_of(chart.step, presets);
-    run_made(
-        chart, states, moves, presets, runs, shows, &links, needs, &most, memory, timers, inputs,
-        leaves, outputs,
-    );
+    check_pairing::paired_words(t, t.output_pairs, shows);
+    make_needs(t, needs);
+    let mut links = [0u16; LINKS];
+    make_links(t, &mut links);
+    let most = chart_timers::longest_of(t);
+    let made = MadeOnce {
+        runs,
+        links: &links,
+        needs,
+        most: &most,
+    };
+    run_made(t, &made, shows, memory, timers, inputs, leaves, outputs);
 }

@@ -14,5 +14,5 @@ pub fn show(shows: &[u64], l: usize, i: usize, leaves: &mut [u16], outputs: &mut
         × (outputs.new ≡ set outputs.old i (seen_at_leaf c l).outputs) }
 {
     chart_moving::remember(leaves, i, l);
-    slices::put_word(outputs, i, slices::word(shows, l));
+    slices::put(outputs, i, slices::at(shows, l, 0));
 }

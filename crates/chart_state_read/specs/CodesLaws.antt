@@ -117,6 +117,12 @@ module _ (c : Tables) (R : Rules c) where
   pub leaf_initial : (a : ℕ) → a < state_count c → is_leaf c a ≡ eqb (initial c a) 0
   leaf_initial a h = rule.leaf_initial c a ((rule.initial_tells c a).1 (R.initials a h))
 
+  pub leaf_at : (a : ℕ) → a < state_count c → initial c a ≡ 0 → is_leaf c a ≡ true
+  leaf_at a h e = leaf_initial a h ∙ eq-eqb (initial c a) 0 e
+
+  pub super_at : (a : ℕ) → a < state_count c → initial c a ≢ 0 → is_leaf c a ≡ false
+  super_at a h n = leaf_initial a h ∙ ne_eqb (initial c a) 0 n
+
   -- what is remembered is a state exactly where the code passes
   pub code_passes_lem : (l : List ℕ) (a : ℕ) → code_passes c l a ≡ ltb (entry_of c l a) (state_count c)
   unfolding code_passes

@@ -1,37 +1,34 @@
 // The values of a chart's timers: how long each may grow, and what a step makes of them.
 #![tactic(auto)]
 
-ghost use Rattle.std.specs.Prelude.{◌≡◌, ℕ, suc, ◌<◌, ◌≤◌, length, get_or, set};
+ghost use Rattle.std.specs.Prelude.{◌≡◌, ℕ, suc, ◌<◌, ◌≤◌, length, get_or};
+ghost use Rattle.meaning.specs.Tables.{timer_count};
 ghost use Rattle.meaning.specs.Literals.{input_on};
+ghost use Rattle.tables.specs.Given.{given};
 ghost use Rattle.chart_timers.specs.Times.{longest, value_grown};
 
-use tables::Chart;
+use tables::{Chart, ChartTables};
 
 // N scan steps in ms: no sum or product of 32-bit numbers wraps here.
 pub fn longest(step: u32, preset: u32) -> u64
     ensures { result ≡ longest step preset }
 {
-    if step < 1 {
+    if step == 0 {
         return 0;
     }
-    let d = step as u64;
-    ((preset as u64) + d - 1) / d * d
+    u64::from(preset).div_ceil(u64::from(step)) * u64::from(step)
 }
 
 // N scan steps of each timer, once for all scans.
-pub fn longest_of(step: u32, presets: &[u32]) -> [u32; 32]
-    ensures { length presets.now ≤ 32 → 1 ≤ step → (i : ℕ) → i < length presets.now
-        → longest step (get_or presets.now i 0) < 4294967296
-        → get_or result i 0 ≡ longest step (get_or presets.now i 0) }
+pub fn longest_of(t: &ChartTables<'_>) -> [u32; 32]
+    ensures { timer_count (given t.now) ≤ 32 → 1 ≤ (given t.now).scan_step
+        → (i : ℕ) → i < timer_count (given t.now)
+        → longest (given t.now).scan_step (get_or (given t.now).presets i 0) < 4294967296
+        → get_or result i 0 ≡ longest (given t.now).scan_step (get_or (given t.now).presets i 0) }
 {
     let mut most = [0u32; 32];
-    if Chart::TIMERS < presets.len() {
-        return most;
-    }
-    let mut i = 0;
-    while i < presets.len() {
-        most[i] = (longest(step, presets[i]) % 4294967296) as u32;
-        i += 1;
+    for i in 0..t.timer_count().min(Chart::TIMERS) {
+        most[i] = u32::try_from(longest(t.chart.step, t.presets[i])).unwrap_or(u32::MAX);
     }
     most
 }
@@ -41,44 +38,28 @@ pub fn longest_of(step: u32, presets: &[u32]) -> [u32; 32]
 fn grown(step: u32, most: u32, goes_on: bool, value: u32) -> u32
     ensures { result ≡ value_grown step most goes_on value }
 {
-    if !goes_on {
-        return 0;
-    }
-    let next = (value as u64) + (step as u64);
-    if (most as u64) < next {
-        return most;
-    }
-    next as u32
-}
-
-fn time_row(step: u32, most: &[u32], goes_on: u64, i: usize, timers: &mut [u32])
-    requires { i < 64 }
-    ensures { timers.new ≡ set timers.old i
-        (value_grown step (get_or most.now i 0) (input_on goes_on (suc i))
-        (get_or timers.old i 0)) }
-{
-    if i < timers.len() {
-        timers[i] = grown(
-            step,
-            slices::value(most, i),
-            chart_paths::bit_at(goes_on, i),
-            timers[i],
-        );
+    if goes_on {
+        value.saturating_add(step).min(most)
+    } else {
+        0
     }
 }
 
 // The values of the timers after a step.
-pub fn time(step: u32, most: &[u32], goes_on: u64, count: usize, timers: &mut [u32])
-    ensures { count ≤ 32 → count ≤ length timers.old → (i : ℕ) → i < count
-        → get_or timers.new i 0 ≡ value_grown step (get_or most.now i 0) (input_on goes_on (suc i))
-        (get_or timers.old i 0) }
+pub fn time(t: &ChartTables<'_>, most: &[u32], goes_on: u64, timers: &mut [u32])
+    ensures { timer_count (given t.now) ≤ 32 → timer_count (given t.now) ≤ length timers.old
+        → (i : ℕ) → i < timer_count (given t.now)
+        → get_or timers.new i 0 ≡ value_grown (given t.now).scan_step (get_or most.now i 0)
+        (input_on goes_on (suc i)) (get_or timers.old i 0) }
 {
-    if Chart::TIMERS < count {
-        return;
-    }
-    let mut i = 0;
-    while i < count {
-        time_row(step, most, goes_on, i, timers);
-        i += 1;
+    for i in 0..t.timer_count().min(Chart::TIMERS) {
+        let runs_on = chart_paths::bit_at(goes_on, i);
+        let value = grown(
+            t.chart.step,
+            slices::at(most, i, 0),
+            runs_on,
+            slices::at(timers, i, 0),
+        );
+        slices::put(timers, i, value);
     }
 }

@@ -34,8 +34,7 @@ pub record EarlierPassed (c : Tables) : Type 0 where
   pub few_moves : move_count c ≤ most_moves
 
 -- that, and the words of the timers that run at each state
-pub record TimersKnown (c : Tables) (ss rs : List ℕ) : Type 0 where
-  pub states : c.states ≡ ss
+pub record TimersKnown (c : Tables) (rs : List ℕ) : Type 0 where
   pub running : PairedWords c c.timer_pairs rs
   pub sound : EarlierPassed c
 

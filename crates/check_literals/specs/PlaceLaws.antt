@@ -18,7 +18,7 @@ use Rattle.meaning.specs.declared.Kind.TheVariants.{Unused, Input, Timer, Unknow
 use Rattle.check_needs.specs.declared.ThingWords as W
 use Rattle.check_needs.specs.Words.{WordBits, with_named}
 use Rattle.check_needs.specs.WordsLaws.{named_more}
-use Rattle.check_literals.specs.declared.MoveNeeds.{MoveNeeds}
+use Rattle.check_literals.specs.declared.PlacesSoFar.{PlacesSoFar}
 use Rattle.check_literals.specs.Places.{is_unused, some_unused, PlacesRead, ThingMore, PlaceMore}
 
 -- what may stand before place k
@@ -77,7 +77,7 @@ module _ (c : Tables) (i k : ℕ) where
     may_follow = same_test may_stand (every (λ j. may_precede c i j k) 0 k) there back
 
 -- a literal of a kind, given what those before it need
-module _ (c : Tables) (i k : ℕ) (a : MoveNeeds) (h : PlacesRead c i k a) where
+module _ (c : Tables) (i k : ℕ) (a : PlacesSoFar) (h : PlacesRead c i k a) where
   pub unused_passes : kind_of (nat_abs (literal c i k)) ≡ Unused → true ≡ place_passes c i k
   unfolding place_passes within_counts
   unused_passes e = rw e (sym (zero_may_follow c i k (size_as (nat_abs (literal c i k)) Unused e)))
@@ -132,7 +132,7 @@ module _ (c : Tables) (i k : ℕ) where
       → WordBits v (λ n. input_on w n || (wants c i k b && has (named_at c i k) n)) → WordBits v (λ n. stands_in c i (suc k) b (λ s. has s n))
   more w v b has h g n p q = g n p q ∙ ap (λ t. t || (wants c i k b && has (named_at c i k) n)) (h n p q) ∙ sym (some_more (λ j. wants c i j b && has (named_at c i j) n) k)
 
-  pub one_more : (a r : MoveNeeds) → PlacesRead c i k a → PlaceMore a (wanted (literal c i k)) (kind_of (nat_abs (literal c i k))) r → PlacesRead c i (suc k) r
+  pub one_more : (a r : PlacesSoFar) → PlacesRead c i k a → PlaceMore a (wanted (literal c i k)) (kind_of (nat_abs (literal c i k))) r → PlacesRead c i (suc k) r
   unfolding needed_by
   one_more a r h d = record {
     words = record {

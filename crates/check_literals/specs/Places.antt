@@ -10,7 +10,7 @@ use Rattle.meaning.specs.declared.Kind.{Kind}
 use Rattle.meaning.specs.declared.Kind.TheVariants.{Unused, Input, Timer, Unknown}
 use Rattle.check_needs.specs.declared.ThingWords.{ThingWords}
 use Rattle.check_needs.specs.Words.{WordBits, NeedWords}
-use Rattle.check_literals.specs.declared.MoveNeeds.{MoveNeeds}
+use Rattle.check_literals.specs.declared.PlacesSoFar.{PlacesSoFar}
 
 abbrev pub is_unused : Kind → Bool
 is_unused Unused = true
@@ -23,7 +23,7 @@ abbrev pub some_unused : Tables → ℕ → ℕ → Bool
 some_unused c i k = some (λ j. eqb (nat_abs (literal c i j)) 0) 0 k
 
 -- a has what the first k places of move i need
-pub record PlacesRead (c : Tables) (i k : ℕ) (a : MoveNeeds) : Type 0 where
+pub record PlacesRead (c : Tables) (i k : ℕ) (a : PlacesSoFar) : Type 0 where
   pub words : NeedWords c i k a.needs
   pub end : a.ended ≡ some_unused c i k
 
@@ -33,11 +33,10 @@ pub record ThingMore (a : ThingWords) (yes : Bool) (K : Kind) (r : ThingWords) :
   pub timers : WordBits r.timers (λ t. input_on a.timers t || (yes && (named K).timers t))
 
 -- r is a with one place more, of this kind, that wants what it names on or off
-pub record PlaceMore (a : MoveNeeds) (want : Bool) (K : Kind) (r : MoveNeeds) : Type 0 where
+pub record PlaceMore (a : PlacesSoFar) (want : Bool) (K : Kind) (r : PlacesSoFar) : Type 0 where
   pub on : ThingMore a.needs.on (beq want true) K r.needs.on
   pub off : ThingMore a.needs.off (beq want false) K r.needs.off
   pub end : r.ended ≡ (a.ended || is_unused K)
-  pub passes : r.passes ≡ a.passes
 
 -- LITERAL passes every move
 abbrev pub LiteralsPass : Tables → Type 0

@@ -4,7 +4,6 @@
 
 ghost use Rattle.std.specs.Prelude.{◌≡◌, ◌<◌, ◌≤◌, ◌/◌, length};
 ghost use Rattle.std.specs.Int.Bits.{bit_or};
-ghost use Rattle.meaning.specs.declared.Kind.TheVariants.{Input, Timer};
 ghost use Rattle.check_needs.specs.Words.{need_words, needs_at, needs_put, no_needs, meet_words, clash_at, first_apart};
 ghost use Rattle.check_needs.specs.Words.{others, hold_words, union_words, with_named};
 
@@ -17,6 +16,13 @@ pub struct ThingWords {
     pub timers: u64,
 }
 
+impl ThingWords {
+    pub const NONE: ThingWords = ThingWords {
+        inputs: 0,
+        timers: 0,
+    };
+}
+
 // What the literals of a move need on, and what they need off.
 #[derive(Clone, Copy)]
 pub struct Needs {
@@ -27,37 +33,29 @@ pub struct Needs {
 impl Needs {
     // So many words of a slice are a move's: one for each sign and class.
     pub const WORDS: usize = 4;
-}
 
-const MOST: u64 = 18446744073709551615;
+    pub const NONE: Needs = Needs {
+        on: ThingWords::NONE,
+        off: ThingWords::NONE,
+    };
+}
 
 // ---- sets
-
-fn with_input(s: ThingWords, n: u16) -> ThingWords
-    ensures { result ≡ with_named s (Input n) }
-{
-    let mut r = s;
-    r.inputs = slices::with_number(s.inputs, n as usize);
-    r
-}
-
-fn with_timer(s: ThingWords, n: u16) -> ThingWords
-    ensures { result ≡ with_named s (Timer n) }
-{
-    let mut r = s;
-    r.timers = slices::with_number(s.timers, n as usize);
-    r
-}
 
 // The set with what a literal of this kind names.
 pub fn with_named(s: ThingWords, kind: Kind) -> ThingWords
     ensures { result ≡ with_named s kind }
 {
     match kind {
-        Kind::Unused => s,
-        Kind::Input(n) => with_input(s, n),
-        Kind::Timer(n) => with_timer(s, n),
-        Kind::Unknown => s,
+        Kind::Input(n) => ThingWords {
+            inputs: slices::with_number(s.inputs, usize::from(n)),
+            ..s
+        },
+        Kind::Timer(n) => ThingWords {
+            timers: slices::with_number(s.timers, usize::from(n)),
+            ..s
+        },
+        Kind::Unused | Kind::Unknown => s,
     }
 }
 
@@ -75,10 +73,7 @@ pub fn union(a: ThingWords, b: ThingWords) -> ThingWords
 fn meet(a: ThingWords, b: ThingWords) -> bool
     ensures { result ≡ meet_words a b }
 {
-    if a.inputs & b.inputs != 0 {
-        return true;
-    }
-    a.timers & b.timers != 0
+    a.inputs & b.inputs != 0 || a.timers & b.timers != 0
 }
 
 // What is not in the set.
@@ -86,8 +81,8 @@ fn others(s: ThingWords) -> ThingWords
     ensures { result ≡ others s }
 {
     ThingWords {
-        inputs: MOST - s.inputs,
-        timers: MOST - s.timers,
+        inputs: u64::MAX - s.inputs,
+        timers: u64::MAX - s.timers,
     }
 }
 
@@ -97,10 +92,7 @@ fn others(s: ThingWords) -> ThingWords
 pub fn hold(a: Needs, on: ThingWords) -> bool
     ensures { result ≡ hold_words a on }
 {
-    if meet(a.off, on) {
-        return false;
-    }
-    !meet(a.on, others(on))
+    !meet(a.off, on) && !meet(a.on, others(on))
 }
 
 // The timers that the literals name, of either sign.
@@ -118,16 +110,7 @@ pub fn needs_at(words: &[u64], i: usize) -> Needs
         × (length words.now / need_words ≤ i → result ≡ no_needs) }
 {
     if words.len() / Needs::WORDS <= i {
-        return Needs {
-            on: ThingWords {
-                inputs: 0,
-                timers: 0,
-            },
-            off: ThingWords {
-                inputs: 0,
-                timers: 0,
-            },
-        };
+        return Needs::NONE;
     }
     let at = Needs::WORDS * i;
     Needs {
@@ -167,30 +150,22 @@ fn clash_at(words: &[u64], j: usize, a: Needs) -> bool
         return false;
     }
     let at = Needs::WORDS * j;
-    if a.on.inputs & words[at + 2] != 0 {
-        return true;
-    }
-    if words[at] & a.off.inputs != 0 {
-        return true;
-    }
-    if a.on.timers & words[at + 3] != 0 {
-        return true;
-    }
-    words[at + 1] & a.off.timers != 0
+    a.on.inputs & words[at + 2] != 0
+        || words[at] & a.off.inputs != 0
+        || a.on.timers & words[at + 3] != 0
+        || words[at + 1] & a.off.timers != 0
 }
 
 // The first of the moves from `from` to below `to` that does not clash with a move that needs a; with none, where it
-// ends. It is a loop of its own because most of the check's time goes here: in a longer one the compiler keeps the
-// words in memory.
+// ends, and no Option, since the caller goes on from there. It is a loop of its own because most of the check's time
+// goes here: in a longer one the compiler keeps the words in memory.
 pub fn first_apart(words: &[u64], a: Needs, from: usize, to: usize) -> usize
     ensures { result ≡ first_apart words.now a from to }
 {
-    let mut j = from;
-    while j < to {
+    for j in from..to {
         if !clash_at(words, j, a) {
             return j;
         }
-        j += 1;
     }
-    j
+    from.max(to)
 }

@@ -1,5 +1,6 @@
 -- A pair of moves by their words and their sources, and the least earlier one that overlaps.
-use Rattle.std.specs.Prelude.{◌≡◌, ℕ, suc, ◌/◌, ◌<◌, Bool, true, false, ◌||◌, List, eqb, length}
+use Rattle.std.specs.Prelude.{◌≡◌, refl, ℕ, suc, ◌/◌, ◌<◌, Bool, true, false, ◌||◌, List, eqb, length, Option, Some, None, is_some, IsSome, not}
+use borrow.Author.Tests.{not-true, not-false}
 use Rattle.std.proofs.Common.{sym, ◌∙◌, inl, inr, arith, zero-add, eq-eqb, ne_eqb, lt-ltb}
 use Rattle.std.proofs.Math.Bool.{and-false}
 use Rattle.meaning.specs.Rows.{least, some}
@@ -9,6 +10,7 @@ use Rattle.meaning.specs.Tables.{Tables, source}
 use Rattle.meaning.specs.Hierarchy.{at_or_above}
 use Rattle.meaning.specs.Needs.{clash}
 use Rattle.meaning.specs.Check.{overlaps, earlier, overlap_passes}
+use Rattle.check_overlap.specs.Told.{EarlierTold}
 use Rattle.check_needs.specs.declared.Needs.{Needs}
 use Rattle.check_needs.specs.Words.{need_words, needs_at, clash_at, WordsTo}
 use Rattle.check_needs.specs.WordsLaws.{small_at, clash_words_lem}
@@ -43,3 +45,12 @@ none_earlier c i r e = elim (which (some (overlaps c i) 0 i)) [
   where
     missed : (k : ℕ) → k < i → overlaps c i k ≡ true → least (overlaps c i) 0 i ≡ i → ⊥
     missed k h y z = not_both (least_before (overlaps c i) 0 i k (omega arith) (omega (arith, z))) y
+
+pub none_told : (c : Tables) (i : ℕ) (r : Option ℕ) (b : Bool) → EarlierTold c i r → is_some r ≡ not b → b ≡ overlap_passes c i
+none_told c i None b e n = not-false b (sym n) ∙ sym (eq-eqb i i refl) ∙ none_earlier c i i (sym e)
+none_told c i (Some j) b p n = not-true b (sym n) ∙ sym (ne_eqb j i (λ z. omega (arith, p.0, z))) ∙ none_earlier c i j p.1
+
+-- where there is one it is told
+pub some_told : (c : Tables) (i : ℕ) (r : Option ℕ) → EarlierTold c i r → earlier c i < i → IsSome r
+some_told c i None e h = absurd (omega (arith, e, h))
+some_told c i (Some j) p h = refl

@@ -1,18 +1,25 @@
 -- No second answer of either function of this crate, where the checks before it have passed.
-use Rattle.std.specs.Prelude.{◌≡◌, List, ℕ, suc, ◌/◌, ◌<◌, length, ℤ}
-use Rattle.std.proofs.Common.{sym, ◌∙◌}
+use Rattle.std.specs.Prelude.{◌≡◌, refl, List, ℕ, suc, ◌/◌, ◌<◌, length, Option, Some, None}
+use Rattle.std.proofs.Common.{sym, ap, ◌∙◌, arith}
 use Rattle.meaning.specs.Once.{Once}
 use Rattle.meaning.specs.Tables.{Tables}
-use Rattle.meaning.specs.Check.{earlier, overlap_passes}
+use Rattle.meaning.specs.Check.{overlap_passes}
+use Rattle.tables.specs.declared.ChartTables.{ChartTables}
+use Rattle.tables.specs.Given.{given}
 use Rattle.check_tree.specs.Falling.{Falling}
 use Rattle.check_needs.specs.Words.{need_words, WordsTo}
+use Rattle.check_overlap.specs.Told.{EarlierTold}
 
-pub earlier_once : (c : Tables) (ss : List ℕ) (ms : List ℤ) (ws : List ℕ) (i : ℕ) → c.states ≡ ss → c.moves ≡ ms → Falling c
-    → i < length ws / need_words → WordsTo c (suc i) ws
-    → Once (λ r. (k : Tables) → k.states ≡ ss → k.moves ≡ ms → Falling k → i < length ws / need_words → WordsTo k (suc i) ws → r ≡ earlier k i)
-earlier_once c ss ms ws i d e f h j x y p q = p c d e f h j ∙ sym (q c d e f h j)
+same_told : (c : Tables) (i : ℕ) (x y : Option ℕ) → EarlierTold c i x → EarlierTold c i y → x ≡ y
+same_told c i None None p q = refl
+same_told c i None (Some j) p q = absurd (omega (arith, p, q.0, q.1))
+same_told c i (Some j) None p q = absurd (omega (arith, q, p.0, p.1))
+same_told c i (Some j) (Some k) p q = ap Some (p.1 ∙ sym q.1)
 
-pub overlap_passes_once : (c : Tables) (ss : List ℕ) (ms : List ℤ) (ws : List ℕ) (i : ℕ) → c.states ≡ ss → c.moves ≡ ms → Falling c
-    → i < length ws / need_words → WordsTo c (suc i) ws
-    → Once (λ r. (k : Tables) → k.states ≡ ss → k.moves ≡ ms → Falling k → i < length ws / need_words → WordsTo k (suc i) ws → r ≡ overlap_passes k i)
-overlap_passes_once c ss ms ws i d e f h j x y p q = p c d e f h j ∙ sym (q c d e f h j)
+pub earlier_once : (t : ChartTables) (ws : List ℕ) (i : ℕ) → Falling (given t) → i < length ws / need_words → WordsTo (given t) (suc i) ws
+    → Once (λ r. Falling (given t) → i < length ws / need_words → WordsTo (given t) (suc i) ws → EarlierTold (given t) i r)
+earlier_once t ws i f h j x y p q = same_told (given t) i x y (p f h j) (q f h j)
+
+pub overlap_passes_once : (t : ChartTables) (ws : List ℕ) (i : ℕ) → Falling (given t) → i < length ws / need_words → WordsTo (given t) (suc i) ws
+    → Once (λ r. Falling (given t) → i < length ws / need_words → WordsTo (given t) (suc i) ws → r ≡ overlap_passes (given t) i)
+overlap_passes_once t ws i f h j x y p q = p f h j ∙ sym (q f h j)

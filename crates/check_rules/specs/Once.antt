@@ -1,21 +1,23 @@
 -- No second answer of any function of this crate.
-use Rattle.std.specs.Prelude.{◌≡◌, refl, List, [], ℕ, ℤ}
-use Rattle.std.proofs.Common.{sym, ◌∙◌}
+use Rattle.std.specs.Prelude.{◌≡◌, List, ℕ}
 use Rattle.meaning.specs.Once.{Once}
-use Rattle.meaning.proofs.Laws.Once.{states_once, tables_with}
-use Rattle.meaning.specs.Tables.{Tables}
+use Rattle.meaning.proofs.Laws.Once.{is_once}
+use Rattle.meaning.specs.Tables.{timer_count}
 use Rattle.meaning.specs.Check.{preset_passes, pair_passes, move_passes}
-use Rattle.tables.specs.Given.{tables_of}
-use Rattle.tables.specs.declared.Chart.{Chart}
+use Rattle.tables.specs.declared.ChartTables.{ChartTables}
+use Rattle.tables.specs.Given.{given}
 
-pub preset_passes_once : (ps : List ℕ) (i : ℕ) → Once (λ r. (c : Tables) → c.presets ≡ ps → r ≡ preset_passes c i)
-preset_passes_once ps i x y p q = let c = tables_with [] [] ps in p c refl ∙ sym (q c refl)
+pub preset_passes_once : (t : ChartTables) (i : ℕ) → Once (λ r. r ≡ preset_passes (given t) i)
+preset_passes_once t i = is_once (preset_passes (given t) i)
 
-pub pair_passes_once : (ss : List ℕ) (many : ℕ) (ps : List ℕ) (i : ℕ) → Once (λ r. (c : Tables) → c.states ≡ ss → r ≡ pair_passes c many ps i)
-pair_passes_once ss many ps i = states_once (λ c. pair_passes c many ps i) ss
+pub pair_passes_once : (t : ChartTables) (many : ℕ) (ps : List ℕ) (i : ℕ) → Once (λ r. r ≡ pair_passes (given t) many ps i)
+pair_passes_once t many ps i = is_once (pair_passes (given t) many ps i)
 
-pub output_pair_passes_once : (h : Chart) (ss ps : List ℕ) (i : ℕ) → Once (λ r. (c : Tables) → c.outputs ≡ h.outputs → c.states ≡ ss → r ≡ pair_passes c c.outputs ps i)
-output_pair_passes_once h ss ps i x y p q = let c = tables_of h ss [] [] [] [] in p c refl refl ∙ sym (q c refl refl)
+pub timer_pair_passes_once : (t : ChartTables) (i : ℕ) → Once (λ r. let c = given t in r ≡ pair_passes c (timer_count c) c.timer_pairs i)
+timer_pair_passes_once t i = let c = given t in is_once (pair_passes c (timer_count c) c.timer_pairs i)
 
-pub move_passes_once : (ss : List ℕ) (ms : List ℤ) (i : ℕ) → Once (λ r. (c : Tables) → c.states ≡ ss → c.moves ≡ ms → r ≡ move_passes c i)
-move_passes_once ss ms i x y p q = let c = tables_with ss ms [] in p c refl refl ∙ sym (q c refl refl)
+pub output_pair_passes_once : (t : ChartTables) (i : ℕ) → Once (λ r. let c = given t in r ≡ pair_passes c c.outputs c.output_pairs i)
+output_pair_passes_once t i = let c = given t in is_once (pair_passes c c.outputs c.output_pairs i)
+
+pub move_passes_once : (t : ChartTables) (i : ℕ) → Once (λ r. r ≡ move_passes (given t) i)
+move_passes_once t i = is_once (move_passes (given t) i)

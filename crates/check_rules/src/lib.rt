@@ -3,107 +3,84 @@
 #![tactic(auto)]
 
 ghost use Rattle.std.specs.Prelude.{◌≡◌};
-ghost use Rattle.meaning.specs.Tables.{Tables};
+ghost use Rattle.meaning.specs.Tables.{timer_count};
 ghost use Rattle.meaning.specs.Check.{preset_passes, pair_after, pair_passes, below, move_passes};
+ghost use Rattle.tables.specs.Given.{given};
 ghost use Rattle.check_rules.specs.Parts.{mark_passes};
 
-use tables::Chart;
+use tables::{Chart, ChartTables};
 
 // ---- 4 PRESET, 5 TIMER PAIR and 6 OUTPUT PAIR
 
-pub fn preset_passes(presets: &[u32], i: usize) -> bool
-    ensures { (c : Tables) → c.presets ≡ presets.now → result ≡ preset_passes c i }
+#[tactic(auto, unfolding(meaning::specs::Check::preset_passes, meaning::specs::Tables::preset))]
+pub fn preset_passes(t: &ChartTables<'_>, i: usize) -> bool
+    ensures { result ≡ preset_passes (given t.now) i }
 {
-    if presets.len() <= i {
-        return false;
-    }
-    let ms = presets[i];
-    if ms < 1 {
-        return false;
-    }
-    ms <= Chart::PRESET
+    matches!(t.presets.get(i), Some(1..=Chart::PRESET))
 }
 
 // "each table strictly ascending"
+#[tactic(auto, unfolding(meaning::specs::Check::pair_after))]
 fn pair_after(pairs: &[u16], j: usize, i: usize) -> bool
     ensures { result ≡ pair_after pairs.now j i }
 {
-    let before = tables::pair_number(pairs, j);
-    let number = tables::pair_number(pairs, i);
-    if before < number {
-        return true;
-    }
-    if before == number {
-        return tables::pair_state(pairs, j) < tables::pair_state(pairs, i);
-    }
-    false
+    let before = (tables::pair_number(pairs, j), tables::pair_state(pairs, j));
+    before < (tables::pair_number(pairs, i), tables::pair_state(pairs, i))
 }
 
 // "unknown timer or state, or not above the pair before": `many` is how many timers or outputs there are.
-pub fn pair_passes(states: &[u16], many: usize, pairs: &[u16], i: usize) -> bool
-    ensures { (c : Tables) → c.states ≡ states.now → result ≡ pair_passes c many pairs.now i }
+#[tactic(auto, unfolding(meaning::specs::Check::pair_passes))]
+pub fn pair_passes(t: &ChartTables<'_>, many: usize, pairs: &[u16], i: usize) -> bool
+    ensures { result ≡ pair_passes (given t.now) many pairs.now i }
 {
     let number = tables::pair_number(pairs, i);
-    if number < 1 {
-        return false;
-    }
-    if many < number {
-        return false;
-    }
-    if states.len() / 2 <= tables::pair_state(pairs, i) {
-        return false;
-    }
-    if i == 0 {
-        return true;
-    }
-    pair_after(pairs, i - 1, i)
+    1 <= number
+        && number <= many
+        && tables::pair_state(pairs, i) < t.state_count()
+        && (i == 0 || pair_after(pairs, i - 1, i))
+}
+
+// Timer pairs go by the number of timers.
+pub fn timer_pair_passes(t: &ChartTables<'_>, i: usize) -> bool
+    ensures { let c = given t.now in result ≡ pair_passes c (timer_count c) c.timer_pairs i }
+{
+    pair_passes(t, t.timer_count(), t.timer_pairs, i)
 }
 
 // Output pairs go by the number of outputs.
-pub fn output_pair_passes(chart: Chart, states: &[u16], output_pairs: &[u16], i: usize) -> bool
-    ensures { (c : Tables) → c.outputs ≡ chart.outputs → c.states ≡ states.now
-        → result ≡ pair_passes c c.outputs output_pairs.now i }
+pub fn output_pair_passes(t: &ChartTables<'_>, i: usize) -> bool
+    ensures { let c = given t.now in result ≡ pair_passes c c.outputs c.output_pairs i }
 {
-    pair_passes(states, chart.outputs as usize, output_pairs, i)
+    pair_passes(t, t.chart.outputs as usize, t.output_pairs, i)
 }
 
 // ---- 7 MOVE
 
 // Whether v is one of 0, 1, .., n - 1.
+#[tactic(auto, unfolding(meaning::specs::Check::below))]
 fn below(n: usize, v: i16) -> bool
     ensures { result ≡ below n v }
 {
-    if v < 0 {
-        return false;
-    }
-    (v as usize) < n
+    usize::try_from(v).is_ok_and(|k| k < n)
 }
 
 // 7 MOVE, of move i.
-pub fn move_passes(states: &[u16], moves: &[i16], i: usize) -> bool
-    ensures { (c : Tables) → c.states ≡ states.now → c.moves ≡ moves.now
-        → result ≡ move_passes c i }
+#[tactic(auto, unfolding(meaning::specs::Check::move_passes))]
+pub fn move_passes(t: &ChartTables<'_>, i: usize) -> bool
+    ensures { result ≡ move_passes (given t.now) i }
 {
-    if !below(states.len() / 2, tables::cell(moves, i, 0)) {
-        return false;
-    }
-    if !below(states.len() / 2, tables::cell(moves, i, 1)) {
-        return false;
-    }
-    mark_passes(states, moves, i)
+    let n = t.state_count();
+    below(n, t.cell(i, 0)) && below(n, t.cell(i, 1)) && mark_passes(t, i)
 }
 
 // "other mark, mark 1 on a leaf"
-fn mark_passes(states: &[u16], moves: &[i16], i: usize) -> bool
-    ensures { (c : Tables) → c.states ≡ states.now → c.moves ≡ moves.now
-        → result ≡ mark_passes c i }
+#[tactic(auto, unfolding(meaning::specs::Check::below))]
+fn mark_passes(t: &ChartTables<'_>, i: usize) -> bool
+    ensures { result ≡ mark_passes (given t.now) i }
 {
-    let mark = tables::cell(moves, i, 2);
-    if below(1, mark) {
-        return true;
+    match t.cell(i, 2) {
+        0 => true,
+        1 => !t.leaf(t.target(i)),
+        _ => false,
     }
-    if below(2, mark) {
-        return !tables::leaf(states, tables::target(moves, i));
-    }
-    false
 }

@@ -3,70 +3,67 @@
 #![tactic(auto)]
 
 ghost use Rattle.std.specs.Prelude.{◌≡◌, cond, ◌||◌, eqb, ltb};
-ghost use Rattle.meaning.specs.Tables.{Tables, super_state};
+ghost use Rattle.meaning.specs.Tables.{super_state};
 ghost use Rattle.meaning.specs.Hierarchy.{at_or_above};
 ghost use Rattle.meaning.specs.Check.{hierarchy_passes, initial_passes};
+ghost use Rattle.tables.specs.Given.{given};
 ghost use Rattle.check_tree.specs.Falling.{Falling};
 
-use tables::Chart;
+use tables::{Chart, ChartTables};
 
-fn super_state_passes(states: &[u16], s: usize) -> bool
-    ensures { (c : Tables) → c.states ≡ states.now
-        → result ≡ cond (eqb s 0) (eqb (super_state c s) 0) (ltb (super_state c s) s) }
+fn super_state_passes(t: &ChartTables<'_>, s: usize) -> bool
+    ensures { result ≡ cond (eqb s 0) (eqb (super_state (given t.now) s) 0) (ltb (super_state (given t.now) s) s) }
 {
     if s == 0 {
-        return tables::super_state(states, s) == 0;
+        t.super_state(s) == 0
+    } else {
+        t.super_state(s) < s
     }
-    tables::super_state(states, s) < s
 }
 
 // 2 HIERARCHY, of state s.
-pub fn hierarchy_passes(states: &[u16], s: usize) -> bool
-    ensures { (c : Tables) → c.states ≡ states.now → result ≡ hierarchy_passes c s }
+#[tactic(auto, unfolding(meaning::specs::Check::hierarchy_passes))]
+pub fn hierarchy_passes(t: &ChartTables<'_>, s: usize) -> bool
+    ensures { result ≡ hierarchy_passes (given t.now) s }
 {
-    if super_state_passes(states, s) {
-        return tables::depth(states, s) <= Chart::DEPTH;
-    }
-    false
+    super_state_passes(t, s) && t.depth(s) <= Chart::DEPTH
 }
 
 // 3 INITIAL, of state s.
-pub fn initial_passes(states: &[u16], s: usize) -> bool
-    ensures { (c : Tables) → c.states ≡ states.now → result ≡ initial_passes c s }
+#[tactic(auto, unfolding(meaning::specs::Check::initial_passes))]
+pub fn initial_passes(t: &ChartTables<'_>, s: usize) -> bool
+    ensures { result ≡ initial_passes (given t.now) s }
 {
-    let first = tables::initial(states, s);
-    if tables::leaf(states, s) {
-        return first == 0;
+    let first = t.initial(s);
+    if t.leaf(s) {
+        first == 0
+    } else {
+        t.sub_state(s, first)
     }
-    tables::sub_state(states, s, first)
 }
 
 // ---- 10 OVERLAP: the sources
 
 // Whether a is at or above s. After the check of the hierarchy a super-state has the smaller number, so that the walk
 // ends once it is past a.
-fn over(states: &[u16], a: usize, s: usize) -> bool
-    ensures { (c : Tables) → c.states ≡ states.now → Falling c → result ≡ at_or_above c a s }
+fn over(t: &ChartTables<'_>, a: usize, s: usize) -> bool
+    ensures { Falling (given t.now) → result ≡ at_or_above (given t.now) a s }
 {
-    let mut t = s;
-    let mut k = 0;
-    while k <= Chart::DEPTH {
-        if t <= a {
-            return t == a;
+    let mut up = s;
+    for _k in 0..Chart::DEPTH + 1 {
+        if up <= a {
+            return up == a;
         }
-        t = tables::super_state(states, t);
-        k += 1;
+        up = t.super_state(up);
     }
     false
 }
 
 // "one source is at or above the other"
-pub fn near(states: &[u16], a: usize, b: usize) -> bool
-    ensures { (c : Tables) → c.states ≡ states.now → Falling c
-        → result ≡ (at_or_above c a b || at_or_above c b a) }
+#[tactic(auto, using(crate::specs::Falling::near_low, crate::specs::Falling::near_high))]
+pub fn near(t: &ChartTables<'_>, a: usize, b: usize) -> bool
+    ensures { Falling (given t.now)
+        → result ≡ (at_or_above (given t.now) a b || at_or_above (given t.now) b a) }
 {
-    if a <= b {
-        return over(states, a, b);
-    }
-    over(states, b, a)
+    if a <= b { over(t, a, b) } else { over(t, b, a) }
 }

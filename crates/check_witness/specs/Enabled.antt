@@ -1,6 +1,6 @@
 -- The witness of an OVERLAP: in its state and in every leaf below, with on what it says to be on and off what it says to
 -- be off, both moves are enabled; and there is such a setting.
-use Rattle.std.specs.Prelude.{◌≡◌, ◌⊎◌, Bool, ◌||◌}
+use Rattle.std.specs.Prelude.{◌≡◌, ◌⊎◌, Bool, ◌||◌, Err}
 use Rattle.std.proofs.Math.Path.{refl, sym, ap}
 use Rattle.std.proofs.Common.{◌∙◌}
 use Rattle.std.proofs.Math.Logic.{inl, inr}
@@ -21,7 +21,6 @@ use Rattle.meaning.specs.Rules.{AtOrAbove, Overlap}
 use Rattle.meaning.specs.Check.{overlaps, earlier, verdict}
 use Rattle.meaning.specs.Machine.{enabled}
 use Rattle.meaning.specs.declared.Refusal.TheVariants as R
-use Rattle.meaning.specs.declared.Verdict.TheVariants.{Refused}
 use Rattle.check_tree.specs.Falling.{falling, falls}
 use Rattle.check_witness.specs.declared.Witness.{Witness}
 use Rattle.check_witness.specs.Shown.{Witnessed}
@@ -70,7 +69,7 @@ module _ (c : Tables) (p : Passed c) where
 
 -- ---- the witness
 
-module _ (c : Tables) (i : ℕ) (w : Witness) (W : Witnessed c w) (e : verdict c ≡ Refused (R.Overlap i)) where
+module _ (c : Tables) (i : ℕ) (w : Witness) (W : Witnessed c w) (e : verdict c ≡ Err (R.Overlap i)) where
   -- what one of the two moves needs stands in the words, so a setting as they say fits it
   one_fits : (k : ℕ) (v : Setting) → AsShown w v
       → ((n : ℕ) → (needs_on c k).inputs n ≡ true → (both_on c (earlier c i) i).inputs n ≡ true) → ((n : ℕ) → (needs_off c k).inputs n ≡ true → (both_off c (earlier c i) i).inputs n ≡ true)

@@ -1,5 +1,6 @@
 -- No second answer of the function of this crate.
-use Rattle.std.specs.Prelude.{◌≡◌, Bool, ◌⊎◌, ◌≢◌, ℕ, suc, ◌<◌, ◌^◌}
+use Rattle.meaning.specs.Refusals.{Verdict}
+use Rattle.std.specs.Prelude.{◌≡◌, Bool, ◌⊎◌, ◌≢◌, ℕ, suc, ◌<◌, ◌^◌, Ok, Err}
 use Rattle.std.proofs.Common.{sym, ap, ◌∙◌, inl, inr, arith}
 use Rattle.std.proofs.Math.Decide.{ℕ_discrete}
 use Rattle.meaning.specs.Once.{Once}
@@ -8,8 +9,6 @@ use Rattle.meaning.specs.Refusals.{number_of, place_of}
 use Rattle.meaning.specs.Tables.{Tables}
 use Rattle.meaning.specs.Check.{verdict}
 use Rattle.meaning.specs.declared.Refusal.TheVariants as R
-use Rattle.meaning.specs.declared.Verdict.{Verdict}
-use Rattle.meaning.specs.declared.Verdict.TheVariants.{Accepted, Refused}
 use Rattle.check_needs.specs.Words.{WordBits}
 use Rattle.check_witness.specs.declared.Witness.{Witness}
 use Rattle.check_witness.specs.Shown.{OverlapShown, Witnessed}
@@ -22,9 +21,9 @@ same_word w v h g p q = same_bits 64 w v h g (λ n z. p (suc n) (omega arith) (o
 
 -- ---- an OVERLAP or not
 
-overlap_or_not : (v : Verdict) → ((i : ℕ) × (v ≡ Refused (R.Overlap i))) ⊎ ((i : ℕ) → v ≢ Refused (R.Overlap i))
-overlap_or_not Accepted = inr accepted_no_overlap
-overlap_or_not (Refused r) = elim (ℕ_discrete (number_of r) 10) [ yes e ↦ inl (place_of r, ap Refused (is_overlap r e)) | no n ↦ inr (no_overlap r n) ]
+overlap_or_not : (v : Verdict) → ((i : ℕ) × (v ≡ Err (R.Overlap i))) ⊎ ((i : ℕ) → v ≢ Err (R.Overlap i))
+overlap_or_not (Ok tt) = inr accepted_no_overlap
+overlap_or_not (Err r) = elim (ℕ_discrete (number_of r) 10) [ yes e ↦ inl (place_of r, ap Err (is_overlap r e)) | no n ↦ inr (no_overlap r n) ]
 
 module _ (c : Tables) (x y : Witness) where
   -- what is shown of an OVERLAP

@@ -1,5 +1,6 @@
 -- What a verdict after LITERAL says of the checks before it.
-use Rattle.std.specs.Prelude.{◌≡◌, refl, ◌⊎◌, ◌≢◌, ℕ, ◌≤◌, ◌<◌}
+use Rattle.meaning.specs.Refusals.{Verdict}
+use Rattle.std.specs.Prelude.{◌≡◌, refl, ◌⊎◌, ◌≢◌, ℕ, ◌≤◌, ◌<◌, Ok, Err}
 use Rattle.std.proofs.Common.{sym, ap, ◌∙◌, inl, inr, arith}
 use mathlib.Core.List.{List, zip_with}
 use Rattle.std.proofs.lemmas.Nat.{or_lt}
@@ -16,8 +17,6 @@ use Rattle.meaning.proofs.Laws.Overlap.{overlaps_tells}
 use Rattle.meaning.proofs.Laws.Verdict.{GivenBy, ruled, refused_exactly, accepted_exactly}
 use Rattle.meaning.specs.declared.Refusal.{Refusal}
 use Rattle.meaning.specs.declared.Refusal.TheVariants as R
-use Rattle.meaning.specs.declared.Verdict.{Verdict}
-use Rattle.meaning.specs.declared.Verdict.TheVariants.{Accepted, Refused}
 use Rattle.check_literals.specs.Places.{LiteralsPass}
 use Rattle.meaning.specs.Check as K
 use Rattle.meaning.specs.Needs.{needs_on, needs_off, both_on, both_off}
@@ -35,7 +34,7 @@ pub record Passed (c : Tables) : Type 0 where
   pub sources : (i : ℕ) → i < move_count c → source c i < state_count c
   pub literals : LiteralsPass c
 
-pub accepted_passed : (c : Tables) → verdict c ≡ Accepted → Passed c
+pub accepted_passed : (c : Tables) → verdict c ≡ (Ok tt) → Passed c
 accepted_passed c e = let r = (accepted_exactly c).0 e in record { size = r.size; hierarchy = r.hierarchy; sources = λ i h. source_known c i (r.moves i h); literals = λ i h. (literal_tells c i).1 (r.literals i h) }
 
 later : {A B C : Type 0} → A ⊎ (B × C) → (A → ⊥) → B × C
@@ -43,7 +42,7 @@ later (inl a) n = absurd (n a)
 later (inr p) n = p
 
 -- a refusal that is numbered after LITERAL
-pub refused_passed : (c : Tables) (r : Refusal) → verdict c ≡ Refused r → 9 ≤ number_of r → Passed c
+pub refused_passed : (c : Tables) (r : Refusal) → verdict c ≡ Err r → 9 ≤ number_of r → Passed c
 unfolding GivenBy ruled checks zip_with
 refused_passed c r e h =
     let size = later ((refused_exactly c r).0 e) (λ b. omega (arith, ap number_of b.gives)) in
@@ -84,7 +83,7 @@ pub record OverlapKnown (c : Tables) (i : ℕ) : Type 0 where
   pub some : earlier c i < i
 
 -- the check that gives it is the tenth
-overlap_broken : (c : Tables) (i : ℕ) → verdict c ≡ Refused (R.Overlap i) → (i < move_count c) × (OverlapRule c i → ⊥)
+overlap_broken : (c : Tables) (i : ℕ) → verdict c ≡ Err (R.Overlap i) → (i < move_count c) × (OverlapRule c i → ⊥)
 unfolding GivenBy ruled checks zip_with
 overlap_broken c i e =
     let size = later ((refused_exactly c (R.Overlap i)).0 e) (λ b. omega (arith, ap number_of b.gives)) in
@@ -101,7 +100,7 @@ overlap_broken c i e =
       | inr p ↦ elim p.1 [ inl b ↦ absurd (omega (arith, ap number_of b.gives)) | inr q ↦ absurd q.1 ]
     ]
 
-pub overlap_known : (c : Tables) (i : ℕ) → verdict c ≡ Refused (R.Overlap i) → OverlapKnown c i
+pub overlap_known : (c : Tables) (i : ℕ) → verdict c ≡ Err (R.Overlap i) → OverlapKnown c i
 unfolding earlier
 overlap_known c i e =
     let p = refused_passed c (R.Overlap i) e (omega arith) in
@@ -130,9 +129,9 @@ union_small a b r p q e = rw e (record { inputs = or_lt 64 a.inputs b.inputs p.i
 
 -- ---- what is shown, by the refusal
 
-pub found_witnessed : (c : Tables) (r : Refusal) (w : Witness) → number_of r ≡ 10 → verdict c ≡ Refused r → OverlapFound c (place_of r) w → Witnessed c w
+pub found_witnessed : (c : Tables) (r : Refusal) (w : Witness) → number_of r ≡ 10 → verdict c ≡ Err r → OverlapFound c (place_of r) w → Witnessed c w
 found_witnessed c r w n e f =
-    let z : verdict c ≡ Refused (R.Overlap (place_of r)) = e ∙ ap Refused (is_overlap r n) in
+    let z : verdict c ≡ Err (R.Overlap (place_of r)) = e ∙ ap Err (is_overlap r n) in
     record {
       answer = f.answer ∙ sym z;
       overlap = λ i d. (let y : place_of r ≡ i = ap placed (sym z ∙ d) in rw y at f.shown);
@@ -140,10 +139,10 @@ found_witnessed c r w n e f =
     }
   where
     placed : Verdict → ℕ
-    placed Accepted = 0
-    placed (Refused q) = place_of q
+    placed (Ok tt) = 0
+    placed (Err q) = place_of q
 
-pub other_witnessed : (c : Tables) (v : Verdict) (w : Witness) → verdict c ≡ v → ((i : ℕ) → v ≢ Refused (R.Overlap i)) → w ≡ no_witness v → Witnessed c w
+pub other_witnessed : (c : Tables) (v : Verdict) (w : Witness) → verdict c ≡ v → ((i : ℕ) → v ≢ Err (R.Overlap i)) → w ≡ no_witness v → Witnessed c w
 other_witnessed c v w e n f = record {
   answer = rw (f, e);
   overlap = λ i d. absurd (n i (sym e ∙ d));
@@ -151,16 +150,16 @@ other_witnessed c v w e n f = record {
 }
 
 -- a refusal with another number is no OVERLAP, nor is acceptance
-pub no_overlap : (r : Refusal) → number_of r ≢ 10 → (i : ℕ) → Refused r ≢ Refused (R.Overlap i)
+pub no_overlap : (r : Refusal) → number_of r ≢ 10 → (i : ℕ) → ◌≢◌ {A = Verdict} (Err r) (Err (R.Overlap i))
 no_overlap r n i e = n (ap numbered e)
   where
     numbered : Verdict → ℕ
-    numbered Accepted = 0
-    numbered (Refused q) = number_of q
+    numbered (Ok tt) = 0
+    numbered (Err q) = number_of q
 
-pub accepted_no_overlap : (i : ℕ) → Accepted ≢ Refused (R.Overlap i)
+pub accepted_no_overlap : (i : ℕ) → ◌≢◌ {A = Verdict} (Ok tt) (Err (R.Overlap i))
 accepted_no_overlap i e = omega (arith, ap numbered e)
   where
     numbered : Verdict → ℕ
-    numbered Accepted = 0
-    numbered (Refused q) = 1
+    numbered (Ok tt) = 0
+    numbered (Err q) = 1

@@ -1,12 +1,11 @@
 -- What the check with a witness promises.
-use Rattle.std.specs.Prelude.{◌≡◌, ◌≢◌, ℕ, ◌^◌, ◌<◌}
+use Rattle.meaning.specs.Refusals.{Verdict}
+use Rattle.std.specs.Prelude.{◌≡◌, ◌≢◌, ℕ, ◌^◌, ◌<◌, Err}
 use Rattle.meaning.specs.Tables.{Tables}
 use Rattle.meaning.specs.Needs.{both_on, both_off, lower}
 use Rattle.meaning.specs.Check.{verdict}
 use Rattle.meaning.specs.Check as K
 use Rattle.meaning.specs.declared.Refusal.TheVariants as R
-use Rattle.meaning.specs.declared.Verdict.{Verdict}
-use Rattle.meaning.specs.declared.Verdict.TheVariants.{Refused}
 use Rattle.check_needs.specs.declared.ThingWords.{ThingWords}
 use Rattle.check_needs.specs.Words.{InWords}
 use Rattle.check_witness.specs.declared.Witness.{Witness}
@@ -27,7 +26,7 @@ pub record OverlapShown (c : Tables) (i : ℕ) (r : Witness) : Type 0 where
 
 -- the same, with the verdict
 pub record OverlapFound (c : Tables) (i : ℕ) (r : Witness) : Type 0 where
-  pub answer : r.verdict ≡ Refused (R.Overlap i)
+  pub answer : r.verdict ≡ Err (R.Overlap i)
   pub shown : OverlapShown c i r
 
 -- of anything else
@@ -42,5 +41,5 @@ no_witness v = record {
 
 pub record Witnessed (c : Tables) (r : Witness) : Type 0 where
   pub answer : r.verdict ≡ verdict c
-  pub overlap : (i : ℕ) → verdict c ≡ Refused (R.Overlap i) → OverlapShown c i r
-  pub other : ((i : ℕ) → verdict c ≢ Refused (R.Overlap i)) → r ≡ no_witness (verdict c)
+  pub overlap : (i : ℕ) → verdict c ≡ Err (R.Overlap i) → OverlapShown c i r
+  pub other : ((i : ℕ) → verdict c ≢ Err (R.Overlap i)) → r ≡ no_witness (verdict c)

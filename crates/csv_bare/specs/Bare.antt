@@ -1,6 +1,6 @@
--- What a bare field comes to where it is taken whole: the run of its bytes with its number, and the place of what ends it. A run that
--- ends where it begins leaves the field to be read byte after byte.
-use Rattle.std.specs.Prelude.{ℕ, ◌+◌, ◌*◌, ◌-◌, ◌/◌, Bool, true, ◌&&◌, cond, List, [], ◌∷◌, length, drop, get_or, leb, ltb, eqb}
+-- What a bare field comes to where it is taken whole: the run of its bytes with its number, and the place of what ends it. Where
+-- there is none the field is read byte after byte.
+use Rattle.std.specs.Prelude.{ℕ, ◌+◌, ◌*◌, ◌-◌, ◌/◌, Bool, true, ◌&&◌, cond, List, [], ◌∷◌, length, drop, get_or, leb, ltb, eqb, Some, None, Option, option_map}
 use Rattle.csv_value.specs.Decimals.{encoded}
 use Rattle.csv_bare.specs.declared.BareNumber.{BareNumber}
 
@@ -23,20 +23,21 @@ negated u = run u.end (encoded true u.value)
 abbrev pub first : ℕ → ℕ → ℕ → Bool
 first least limit b = leb least b && (leb b 57 && leb (b - 48) limit)
 
--- a minus at i: "no .. -0"
-unfoldable pub minus_from : ℕ → List ℕ → ℕ → BareNumber
-minus_from below bytes i = cond (ltb (i + 1) (length bytes) && first 49 below (get_or bytes (i + 1) 0))
-    (negated (digits_from below (drop (i + 1 + 1) bytes) (i + 1 + 1) (get_or bytes (i + 1) 0 - 48))) (run i 0)
+-- the number whose first digit stands at i
+unfoldable pub number_from : ℕ → ℕ → List ℕ → ℕ → Option BareNumber
+number_from least limit bytes i = cond (ltb i (length bytes) && first least limit (get_or bytes i 0))
+    (Some (digits_from limit (drop (i + 1) bytes) (i + 1) (get_or bytes i 0 - 48))) None
 
-unfoldable pub bare_from : ℕ → ℕ → List ℕ → ℕ → BareNumber
-bare_from most below bytes i = cond (ltb i (length bytes)) (cond (eqb (get_or bytes i 0) 45) (minus_from below bytes i)
-    (cond (first 48 most (get_or bytes i 0)) (digits_from most (drop (i + 1) bytes) (i + 1) (get_or bytes i 0 - 48)) (run i 0))) (run i 0)
+-- at a minus the number that follows it: "no .. -0"
+unfoldable pub bare_from : ℕ → ℕ → List ℕ → ℕ → Option BareNumber
+bare_from most below bytes i = cond (eqb (get_or bytes i 0) 45) (option_map negated (number_from 49 below bytes (i + 1))) (number_from 48 most bytes i)
 
 -- a CR at end, and LF after it
 abbrev pub returns : List ℕ → ℕ → Bool
 returns bytes end = ltb (end + 1) (length bytes) && (eqb (get_or bytes end 0) 13 && eqb (get_or bytes (end + 1) 0) 10)
 
 -- "record of wrong field count": a comma has fields after it, the record's end has none
-unfoldable pub end_from : ℕ → List ℕ → ℕ → ℕ → ℕ
-end_from left bytes i end = cond (ltb i end && ltb end (length bytes))
-    (cond (eqb (get_or bytes end 0) 44) (cond (ltb 0 left) end i) (cond (ltb 0 left) i (cond (eqb (get_or bytes end 0) 10) end (cond (returns bytes end) (end + 1) i)))) i
+unfoldable pub end_from : ℕ → List ℕ → ℕ → Option ℕ
+end_from left bytes end = cond (ltb end (length bytes))
+    (cond (eqb (get_or bytes end 0) 44) (cond (ltb 0 left) (Some end) None)
+    (cond (ltb 0 left) None (cond (eqb (get_or bytes end 0) 10) (Some end) (cond (returns bytes end) (Some (end + 1)) None)))) None

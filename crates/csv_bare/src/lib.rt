@@ -1,8 +1,8 @@
 // A bare field taken whole: its number, as far as the digits go that cannot take it beyond its type, and what ends it.
 #![tactic(auto)]
 
-ghost use Rattle.std.specs.Prelude.{◌≡◌, drop};
-ghost use Rattle.csv_bare.specs.Bare.{digits_from, minus_from, bare_from, end_from};
+ghost use Rattle.std.specs.Prelude.{◌≡◌, ◌≤◌, length, drop};
+ghost use Rattle.csv_bare.specs.Bare.{digits_from, number_from, bare_from, end_from};
 
 use csv_cursor::{COMMA, CR, LF};
 
@@ -15,125 +15,69 @@ pub struct BareNumber {
 
 // The digits that follow in a number that has begun. They also stop before one that might take it beyond the limit:
 // there byte after byte decides.
+#[tactic(auto, using(crate::specs::BareLaws::digits_runs))]
 fn digits(limit: u64, bytes: &[u8], from: usize, first: u64) -> BareNumber
+    requires { from ≤ length bytes.now }
     ensures { result ≡ digits_from limit (drop from bytes.now) from first }
 {
     let tenth = limit / 10;
     let mut n = first;
-    let mut i = from;
-    while i < bytes.len() {
+    for i in from..bytes.len() {
         let b = bytes[i];
-        if b < 48 {
+        if !b.is_ascii_digit() || n == 0 || tenth <= n {
             return BareNumber { end: i, value: n };
         }
-        if 57 < b {
-            return BareNumber { end: i, value: n };
-        }
-        if n < 1 {
-            return BareNumber { end: i, value: n };
-        }
-        if tenth <= n {
-            return BareNumber { end: i, value: n };
-        }
-        n = 10 * n + csv_field::wide(b - 48);
-        i += 1;
+        n = 10 * n + u64::from(b - b'0');
     }
-    BareNumber { end: i, value: n }
-}
-
-// A bare number whose minus is at from.
-fn after_minus(below: u64, bytes: &[u8], from: usize) -> BareNumber
-    ensures { result ≡ minus_from below bytes.now from }
-{
-    let none = BareNumber {
-        end: from,
-        value: 0,
-    };
-    if bytes.len() <= from {
-        return none;
-    }
-    let next = from + 1;
-    if bytes.len() <= next {
-        return none;
-    }
-    let b = bytes[next];
-    if b <= 48 {
-        return none;
-    }
-    if 57 < b {
-        return none;
-    }
-    let first = csv_field::wide(b - 48);
-    if below < first {
-        return none;
-    }
-    let u = digits(below, bytes, next + 1, first);
     BareNumber {
-        end: u.end,
-        value: csv_value::encode(true, u.value),
+        end: bytes.len(),
+        value: n,
     }
 }
 
-// The bare number that begins at from. A run that ends where it begins leaves the field to be read byte after byte.
-pub fn bare(most: u64, below: u64, bytes: &[u8], from: usize) -> BareNumber
+// The number whose first digit is at from, and no less than least.
+#[tactic(auto, unfolding(crate::specs::Bare::number_from))]
+fn number_at(least: u8, limit: u64, bytes: &[u8], from: usize) -> Option<BareNumber>
+    requires { 48 ≤ least }
+    ensures { result ≡ number_from least limit bytes.now from }
+{
+    let b = *bytes.get(from)?;
+    if b < least || b'9' < b {
+        return None;
+    }
+    let first = u64::from(b - b'0');
+    if limit < first {
+        return None;
+    }
+    Some(digits(limit, bytes, from + 1, first))
+}
+
+// The bare number that begins at from; where there is none, the field is to be read byte after byte. After a minus no 0
+// comes: "no .. -0".
+#[tactic(auto, unfolding(crate::specs::Bare::bare_from))]
+pub fn bare(most: u64, below: u64, bytes: &[u8], from: usize) -> Option<BareNumber>
     ensures { result ≡ bare_from most below bytes.now from }
 {
-    let none = BareNumber {
-        end: from,
-        value: 0,
-    };
-    if bytes.len() <= from {
-        return none;
+    if bytes.get(from) == Some(&b'-') {
+        let u = number_at(b'1', below, bytes, from + 1)?;
+        return Some(BareNumber {
+            value: csv_value::encode(true, u.value),
+            ..u
+        });
     }
-    let b = bytes[from];
-    if b == b'-' {
-        return after_minus(below, bytes, from);
-    }
-    if b < 48 {
-        return none;
-    }
-    if 57 < b {
-        return none;
-    }
-    let first = csv_field::wide(b - 48);
-    if most < first {
-        return none;
-    }
-    digits(most, bytes, from + 1, first)
+    number_at(b'0', most, bytes, from)
 }
 
-// The place of the comma, or of the LF with or without a CR, that ends in its place a field whose number goes from i to
-// end; i where none does.
-pub fn field_end(left: usize, bytes: &[u8], i: usize, end: usize) -> usize
-    ensures { result ≡ end_from left bytes.now i end }
+// The place of the comma, or of the LF with or without a CR, that ends in its place a field whose number ends at end.
+// "record of wrong field count": a comma has fields after it, the record's end has none.
+#[tactic(auto, unfolding(crate::specs::Bare::end_from))]
+pub fn field_end(left: usize, bytes: &[u8], end: usize) -> Option<usize>
+    ensures { result ≡ end_from left bytes.now end }
 {
-    if end <= i {
-        return i;
+    match *bytes.get(end)? {
+        COMMA if 0 < left => Some(end),
+        LF if left == 0 => Some(end),
+        CR if left == 0 && bytes.get(end + 1) == Some(&LF) => Some(end + 1),
+        _ => None,
     }
-    if bytes.len() <= end {
-        return i;
-    }
-    let b = bytes[end];
-    if b == COMMA {
-        if left < 1 {
-            return i;
-        }
-        return end;
-    }
-    if 0 < left {
-        return i;
-    }
-    if b == LF {
-        return end;
-    }
-    let next = end + 1;
-    if bytes.len() <= next {
-        return i;
-    }
-    if b == CR {
-        if bytes[next] == LF {
-            return next;
-        }
-    }
-    i
 }

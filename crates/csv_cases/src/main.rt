@@ -3,7 +3,6 @@
 #![tactic(auto)]
 
 use csv_cursor::Reader;
-use csv_records::RecordsAnswer;
 use std::io;
 use std::io::{Read, Write};
 
@@ -20,8 +19,8 @@ fn reader_of(letter: u8) -> Reader {
 
 fn byte_of(b: u8) -> u8 {
     match b {
-        b'/' => 10,
-        b'|' => 13,
+        b'/' => b'\n',
+        b'|' => b'\r',
         b'@' => 0,
         b'{' => 239,
         b'}' => 187,
@@ -46,25 +45,17 @@ fn one_by_one(r: Reader, file: &[u8], out: &mut [u64]) -> Reader {
     s
 }
 
-fn print_number(rt: &impl Print, n: u64) -> io::Result<()> {
-    print!(rt; " {n}")
-}
-
-fn print_numbers(rt: &impl Print, out: &[u64]) -> io::Result<()> {
-    for n in out {
-        print_number(rt, *n)?;
-    }
-    Ok(())
-}
-
-// What the reader answers; of rows all that out has then, the rest of it too.
-fn print_answer(rt: &impl Print, a: RecordsAnswer, out: &[u64]) -> io::Result<()> {
-    match a {
-        RecordsAnswer::Rows(n) => {
+// What the reader answers at the end of its file; of rows all that out has then, the rest of it too.
+fn print_end(rt: &impl Print, r: Reader, out: &mut [u64]) -> io::Result<()> {
+    match csv_records::finish(r, out) {
+        Ok(n) => {
             print!(rt; "ROWS,{n}")?;
-            print_numbers(rt, out)
+            for n in out {
+                print!(rt; " {n}")?;
+            }
+            Ok(())
         }
-        RecordsAnswer::Refused(r) => {
+        Err(r) => {
             let number = meaning::number(r);
             let place = meaning::place(r);
             print!(rt; "REFUSED,{number},{place}")
@@ -72,77 +63,40 @@ fn print_answer(rt: &impl Print, a: RecordsAnswer, out: &[u64]) -> io::Result<()
     }
 }
 
-fn whole(rt: &impl Print, r: Reader, file: &[u8], out: &mut [u64]) -> io::Result<()> {
-    print!(rt; " : ")?;
-    let s = csv_records::feed(r, file, out);
-    let a = csv_records::finish(s, out);
-    print_answer(rt, a, out)
-}
-
-fn split(rt: &impl Print, r: Reader, file: &[u8], out: &mut [u64]) -> io::Result<()> {
-    print!(rt; " : ")?;
-    let s = one_by_one(r, file, out);
-    let a = csv_records::finish(s, out);
-    print_answer(rt, a, out)
-}
-
 fn both(rt: &impl Print, r: Reader, file: &[u8]) -> io::Result<()> {
     let mut out = [7u64; 12];
-    whole(rt, r, file, &mut out)?;
+    print!(rt; " : ")?;
+    let s = csv_records::feed(r, file, &mut out);
+    print_end(rt, s, &mut out)?;
     let mut other = [7u64; 12];
-    split(rt, r, file, &mut other)?;
+    print!(rt; " : ")?;
+    let t = one_by_one(r, file, &mut other);
+    print_end(rt, t, &mut other)?;
     println!(rt)
 }
 
-fn case(rt: &impl Print, r: Reader, line: &[u8], file: &mut [u8]) -> io::Result<()> {
-    decode(line, file);
-    let n = line.len();
-    if file.len() < n {
-        return Ok(());
-    }
-    both(rt, r, &file[..n])
-}
-
+// A line without a byte is none, and one that is longer than the room is left out.
 fn show(rt: &impl Print, line: &[u8]) -> io::Result<()> {
-    if line.len() == 0 {
+    let Some((letter, rest)) = line.split_first() else {
         return Ok(());
-    }
+    };
     io::writer(rt).write_all(line)?;
     let mut file = [0u8; 80];
-    case(rt, reader_of(line[0]), &line[1..], &mut file)
-}
-
-fn cases(rt: &impl Print, text: &[u8]) -> io::Result<()> {
-    let mut start = 0;
-    for (i, b) in text.iter().enumerate() {
-        if *b == 10 {
-            show(rt, &text[start..i])?;
-            start = i + 1;
-        }
+    decode(rest, &mut file);
+    match file.get(..rest.len()) {
+        Some(whole) => both(rt, reader_of(*letter), whole),
+        None => Ok(()),
     }
-    Ok(())
 }
 
-fn feed_one(r: Reader, out: &mut [u64]) -> Reader {
-    csv_records::feed(r, b"1\n", out)
-}
-
-// As many records "1".
-fn feed_ones(r: Reader, count: usize, out: &mut [u64]) -> Reader {
-    let mut s = r;
-    for _ in 0..count {
-        s = feed_one(s, out);
-    }
-    s
-}
-
-// They, and the bytes last, as a file of scans; no number is shown.
+// As many records "1", and the bytes last, as a file of scans; no number is shown.
 fn many(rt: &impl Print, count: usize, last: &[u8]) -> io::Result<()> {
-    let mut out = [7u64; 0];
-    let ones = feed_ones(Reader::scans(), count, &mut out);
-    let all = csv_records::feed(ones, last, &mut out);
-    let a = csv_records::finish(all, &mut out);
-    print_answer(rt, a, &out)?;
+    let mut s = Reader::scans();
+    for _ in 0..count {
+        s = csv_records::feed(s, b"1\n", &mut []);
+    }
+    s = csv_records::feed(s, last, &mut []);
+    print_end(rt, s, &mut [])?;
     println!(rt)
 }
 
@@ -150,15 +104,18 @@ fn many(rt: &impl Print, count: usize, last: &[u8]) -> io::Result<()> {
 fn short(rt: &impl Print) -> io::Result<()> {
     let mut out = [7u64; 2];
     let s = csv_records::feed(Reader::states(), b"1,2\n3,4\n5,6", &mut out);
-    let a = csv_records::finish(s, &mut out);
-    print_answer(rt, a, &out)?;
+    print_end(rt, s, &mut out)?;
     println!(rt)
 }
 
 fn main(rt: HostRuntime) -> io::Result<()> {
     let mut text = Vec::new(rt.alloc());
     rt.reader().read_to_end(&mut text)?;
-    cases(&rt, &text)?;
+    for piece in text.split_inclusive(|b| *b == b'\n') {
+        if let Some(line) = piece.strip_suffix(b"\n") {
+            show(&rt, line)?;
+        }
+    }
     many(&rt, 4096, b"")?;
     many(&rt, 4096, b"1")?;
     many(&rt, 4096, b"\n")?;

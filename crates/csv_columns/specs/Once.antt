@@ -1,29 +1,15 @@
 -- No second answer of any function of this crate.
-use Rattle.std.specs.Prelude.{◌≡◌, List, map, ℕ, ◌*◌, min, ℤ}
+use Rattle.std.specs.Prelude.{◌≡◌, List, map, ℕ, ◌*◌, min}
 use Rattle.std.proofs.lemmas.List.Edits.{sets}
 use Rattle.meaning.specs.Once.{Once}
 use Rattle.meaning.proofs.Laws.Once.{is_once}
-use Rattle.meaning.specs.Tables.{move_row}
-use Rattle.csv_value.specs.Decimals.{signed_of}
-use Rattle.csv_columns.specs.Low.{low16, low32}
 
-pub low_32_once : (x : ℕ) → Once (λ r. r ≡ low32 x)
-low_32_once x = is_once (low32 x)
+-- what a number is stored as, in any column's type
+pub stored_as_once : {A : Type 0} (f : ℕ → A) (x : ℕ) → Once (λ r. r ≡ f x)
+stored_as_once f x = is_once (f x)
 
-pub narrow_16_once : (from to : List ℕ) → Once (λ m. m ≡ sets to 0 (map low16 from))
-narrow_16_once from to = is_once (sets to 0 (map low16 from))
+pub narrow_once : (A : Type 0) (f : ℕ → A) (from : List ℕ) (to : List A) → Once (λ m. m ≡ sets to 0 (map f from))
+narrow_once A f from to = is_once (sets to 0 (map f from))
 
-pub narrow_32_once : (from to : List ℕ) → Once (λ m. m ≡ sets to 0 (map low32 from))
-narrow_32_once from to = is_once (sets to 0 (map low32 from))
-
-pub narrow_signed_once : (from : List ℕ) (to : List ℤ) → Once (λ m. m ≡ sets to 0 (map signed_of from))
-narrow_signed_once from to = is_once (sets to 0 (map signed_of from))
-
-pub ones_once : (rows room : ℕ) → Once (λ r. r ≡ min rows room)
-ones_once rows room = is_once (min rows room)
-
-pub twos_once : (rows room : ℕ) → Once (λ r. r ≡ min (2 * rows) room)
-twos_once rows room = is_once (min (2 * rows) room)
-
-pub elevens_once : (rows room : ℕ) → Once (λ r. r ≡ min (move_row * rows) room)
-elevens_once rows room = is_once (min (move_row * rows) room)
+pub kept_once : (row rows room : ℕ) → Once (λ r. r ≡ min (row * rows) room)
+kept_once row rows room = is_once (min (row * rows) room)

@@ -1,83 +1,58 @@
 // The numbers that the reader of records stores, each in the type of its table, and how many of them a table has.
 #![tactic(auto)]
 
-ghost use Rattle.std.specs.Prelude.{◌≡◌, map, ◌*◌, min};
+ghost use Rattle.std.specs.Prelude.{◌≡◌, ℕ, map, ◌*◌, min};
 ghost use Rattle.std.proofs.lemmas.List.Edits.{sets};
-ghost use Rattle.meaning.specs.Tables.{move_row};
 ghost use Rattle.csv_value.specs.Decimals.{signed_of};
 ghost use Rattle.csv_columns.specs.Low.{low16, low32};
 
-use tables::Chart;
+// The type of a table's numbers, and what a stored number is in it.
+pub trait Column: Copy {
+    ghost stored_as: { ℕ → Self };
 
-fn low_16(x: u64) -> u16
-    ensures { result ≡ low16 x }
-{
-    (x % 65536) as u16
+    fn narrow(x: u64) -> Self
+        ensures { result ≡ stored_as x };
 }
 
-// The lower 32 bits.
-pub fn low_32(x: u64) -> u32
-    ensures { result ≡ low32 x }
-{
-    (x % 4294967296) as u32
-}
+// states.csv, timerpairs.csv, outputpairs.csv: the lower 16 bits.
+impl Column for u16 {
+    ghost stored_as = { low16 };
 
-// states.csv, timerpairs.csv, outputpairs.csv
-pub fn narrow_16(from: &[u64], to: &mut [u16])
-    ensures { to.new ≡ sets to.old 0 (map low16 from.now) }
-{
-    let mut i = 0;
-    while i < from.len() {
-        slices::put_number(to, i, low_16(from[i]));
-        i += 1;
+    fn narrow(x: u64) -> u16 {
+        (x % 65536) as u16
     }
 }
 
-// presets.csv
-pub fn narrow_32(from: &[u64], to: &mut [u32])
-    ensures { to.new ≡ sets to.old 0 (map low32 from.now) }
-{
-    let mut i = 0;
-    while i < from.len() {
-        slices::put_value(to, i, low_32(from[i]));
-        i += 1;
+// frame.csv, presets.csv: the lower 32 bits.
+impl Column for u32 {
+    ghost stored_as = { low32 };
+
+    fn narrow(x: u64) -> u32 {
+        (x % 4294967296) as u32
     }
 }
 
-// moves.csv
-pub fn narrow_signed(from: &[u64], to: &mut [i16])
-    ensures { to.new ≡ sets to.old 0 (map signed_of from.now) }
-{
-    let mut i = 0;
-    while i < from.len() {
-        slices::put_signed(to, i, csv_value::signed(from[i]));
-        i += 1;
+// moves.csv: the sign is in the upper bits.
+impl Column for i16 {
+    ghost stored_as = { signed_of };
+
+    fn narrow(x: u64) -> i16 {
+        csv_value::signed(x)
     }
 }
 
-// The numbers of so many rows of one, two or eleven, as far as there is room for them. No product wraps.
-pub fn ones(rows: usize, room: usize) -> usize
-    ensures { result ≡ min rows room }
+// The numbers from the front, as far as there is room.
+pub fn narrow<T: Column>(from: &[u64], to: &mut [T])
+    ensures { to.new ≡ sets to.old 0 (map T.stored_as from.now) }
 {
-    slices::shorter(rows, room)
+    for (i, number) in from.iter().enumerate() {
+        slices::put(to, i, T::narrow(*number));
+    }
 }
 
-// How many numbers so many rows of two have, as far as there is room.
-pub fn twos(rows: usize, room: usize) -> usize
-    ensures { result ≡ min (2 * rows) room }
+// How many numbers so many rows of ROW each have, as far as there is room. No product wraps.
+pub fn kept<const ROW: usize>(rows: usize, room: usize) -> usize
+    ensures { result ≡ min (ROW * rows) room }
 {
-    if room / 2 < rows {
-        return room;
-    }
-    slices::shorter(2 * rows, room)
-}
-
-// How many numbers so many rows of eleven have, as far as there is room.
-pub fn elevens(rows: usize, room: usize) -> usize
-    ensures { result ≡ min (move_row * rows) room }
-{
-    if room / Chart::MOVE_ROW < rows {
-        return room;
-    }
-    slices::shorter(Chart::MOVE_ROW * rows, room)
+    rows.saturating_mul(ROW).min(room)
 }

@@ -2,14 +2,16 @@
 // place, and the reader after it.
 #![tactic(auto)]
 
-ghost use Rattle.std.specs.Prelude.{◌≡◌, ◌-◌};
-ghost use Rattle.csv_cursor.specs.Passing.{count_up, fresh_reader, reader_with, bad, ends, separator_fits, passed};
+ghost use Rattle.std.specs.Prelude.{◌≡◌};
+ghost use Rattle.csv_cursor.specs.Passing.{fresh_reader, bad, ends, separator_fits, passed};
 
-pub const COMMA: u8 = 44;
+use csv_field::FieldPhase;
 
-pub const LF: u8 = 10;
+pub const COMMA: u8 = b',';
 
-pub const CR: u8 = 13;
+pub const LF: u8 = b'\n';
+
+pub const CR: u8 = b'\r';
 
 // The whole state of the reader of one file.
 #[derive(Clone, Copy)]
@@ -26,23 +28,24 @@ pub struct Reader {
     pub record_no: usize,
     pub left: usize,
     pub at: usize,
-    pub phase: csv_field::FieldPhase,
+    pub phase: FieldPhase,
 }
 
 impl Reader {
-    fn new(most: u64, below: u64, more: usize, least: usize, limit: usize) -> Self
-        ensures { result ≡ fresh_reader most below more least limit }
+    // Any number of records.
+    fn new(most: u64, below: u64, more: usize) -> Self
+        ensures { result ≡ fresh_reader most below more 0 18446744073709551615 }
     {
         Reader {
             most,
             below,
             more,
-            least,
-            limit,
+            least: 0,
+            limit: usize::MAX,
             record_no: 0,
             left: more,
             at: 0,
-            phase: csv_field::FieldPhase::Fresh,
+            phase: FieldPhase::Fresh,
         }
     }
 
@@ -50,138 +53,99 @@ impl Reader {
     pub fn frame() -> Self
         ensures { result ≡ fresh_reader 4294967295 0 2 1 1 }
     {
-        Reader::new(4294967295, 0, 2, 1, 1)
+        Reader {
+            least: 1,
+            limit: 1,
+            ..Reader::new(u64::from(u32::MAX), 0, 2)
+        }
     }
 
     // states.csv: two numbers of 16 bits.
     pub fn states() -> Self
         ensures { result ≡ fresh_reader 65535 0 1 0 18446744073709551615 }
     {
-        Reader::new(65535, 0, 1, 0, 18446744073709551615)
+        Reader::new(u64::from(u16::MAX), 0, 1)
     }
 
     // moves.csv: eleven numbers of 16 bits with a sign.
     pub fn moves() -> Self
         ensures { result ≡ fresh_reader 32767 32768 10 0 18446744073709551615 }
     {
-        Reader::new(32767, 32768, 10, 0, 18446744073709551615)
+        Reader::new(32767, 32768, 10)
     }
 
     // presets.csv: one number of 32 bits.
     pub fn presets() -> Self
         ensures { result ≡ fresh_reader 4294967295 0 0 0 18446744073709551615 }
     {
-        Reader::new(4294967295, 0, 0, 0, 18446744073709551615)
+        Reader::new(u64::from(u32::MAX), 0, 0)
     }
 
     // timer pairs and output pairs
     pub fn pairs() -> Self
         ensures { result ≡ fresh_reader 65535 0 1 0 18446744073709551615 }
     {
-        Reader::new(65535, 0, 1, 0, 18446744073709551615)
+        Reader::new(u64::from(u16::MAX), 0, 1)
     }
 
     // "scans.csv has at most 4,096: more is FIELD at 4,096."
     pub fn scans() -> Self
         ensures { result ≡ fresh_reader 18446744073709551615 0 0 0 4096 }
     {
-        Reader::new(18446744073709551615, 0, 0, 0, 4096)
+        Reader {
+            limit: 4096,
+            ..Reader::new(u64::MAX, 0, 0)
+        }
     }
-}
 
-// An enum in a field is not stored to: the reader anew.
-pub fn reader_with(
-    r: Reader,
-    phase: csv_field::FieldPhase,
-    record_no: usize,
-    left: usize,
-    at: usize,
-) -> Reader
-    ensures { result ≡ reader_with r phase record_no left at }
-{
-    Reader {
-        most: r.most,
-        below: r.below,
-        more: r.more,
-        least: r.least,
-        limit: r.limit,
-        record_no,
-        left,
-        at,
-        phase,
+    // The reader after a record that does not pass.
+    pub fn fail(self) -> Self
+        ensures { result ≡ bad self }
+    {
+        Reader {
+            phase: FieldPhase::Bad,
+            ..self
+        }
     }
-}
 
-// The reader after a record that does not pass.
-pub fn fail(r: Reader) -> Reader
-    ensures { result ≡ bad r }
-{
-    reader_with(r, csv_field::FieldPhase::Bad, r.record_no, r.left, r.at)
-}
-
-// Counts stop at the largest.
-pub fn one_more(n: usize) -> usize
-    ensures { result ≡ count_up n }
-{
-    if n < 18446744073709551615 {
-        return n + 1;
+    // The reader after a field that passes, which b ends. Counts stop at the largest.
+    #[tactic(auto, unfolding(crate::specs::Passing::passed))]
+    pub fn pass(self, b: u8, at: usize) -> Self
+        ensures { result ≡ passed self b at }
+    {
+        match b {
+            COMMA => Reader {
+                phase: FieldPhase::Empty,
+                left: self.left.saturating_sub(1),
+                at,
+                ..self
+            },
+            CR => Reader {
+                phase: FieldPhase::Return,
+                at,
+                ..self
+            },
+            _ => Reader {
+                phase: FieldPhase::Fresh,
+                record_no: self.record_no.saturating_add(1),
+                left: self.more,
+                at,
+                ..self
+            },
+        }
     }
-    n
-}
-
-fn one_less(n: usize) -> usize
-    ensures { result ≡ n - 1 }
-{
-    if n == 0 {
-        return 0;
-    }
-    n - 1
 }
 
 // Whether a byte ends a bare field.
 pub fn is_end(b: u8) -> bool
     ensures { result ≡ ends b }
 {
-    if b == COMMA {
-        return true;
-    }
-    if b == LF {
-        return true;
-    }
-    b == CR
+    matches!(b, COMMA | LF | CR)
 }
 
 // "record of wrong field count": a comma has fields after it, the record's end has none.
 pub fn in_place(left: usize, b: u8) -> bool
     ensures { result ≡ separator_fits left b }
 {
-    if b == COMMA {
-        return 0 < left;
-    }
-    left == 0
-}
-
-// The state after a field that passes.
-pub fn pass(r: Reader, b: u8, at: usize) -> Reader
-    ensures { result ≡ passed r b at }
-{
-    if b == COMMA {
-        return reader_with(
-            r,
-            csv_field::FieldPhase::Empty,
-            r.record_no,
-            one_less(r.left),
-            at,
-        );
-    }
-    if b == CR {
-        return reader_with(r, csv_field::FieldPhase::Return, r.record_no, r.left, at);
-    }
-    reader_with(
-        r,
-        csv_field::FieldPhase::Fresh,
-        one_more(r.record_no),
-        r.more,
-        at,
-    )
+    if b == COMMA { 0 < left } else { left == 0 }
 }

@@ -24,6 +24,8 @@ module _ (limit : ℕ) (q s : Bool) (n b : ℕ) where
   unfolding digit_added
   grown_digit h g p = rw (le-leb 48 b h, le-leb b 57 g, le-leb (10 * n + (b - 48)) limit p)
 
+pub ruleset grown = (grown_low, grown_high, grown_past, grown_digit)
+
 -- ---- a bare number
 
 -- its first digit

@@ -5,8 +5,5 @@ use Rattle.meaning.proofs.Laws.Once.{is_once}
 use Rattle.csv_field.specs.declared.FieldPhase.{FieldPhase}
 use Rattle.csv_field.specs.Field.{phase_after}
 
-pub wide_once : (b : ℕ) → Once (λ r. r ≡ b)
-wide_once b = is_once b
-
 pub within_once : (most below : ℕ) (s : FieldPhase) (b : ℕ) → Once (λ p. p ≡ phase_after most below s b)
 within_once most below s b = is_once (phase_after most below s b)

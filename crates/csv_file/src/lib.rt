@@ -6,6 +6,7 @@ ghost use Rattle.csv_file.specs.Reads.{reader_for, row_for, FilePassed, RecordsR
 
 use csv_cursor::Reader;
 use meaning::Refusal;
+use std::fmt;
 use tables::Chart;
 
 // "file by file in the order of the program section"
@@ -20,14 +21,30 @@ pub enum File {
     Scans,
 }
 
-// How many records the file has and how many numbers they are, or why none was written.
-#[derive(Clone, Copy)]
-pub enum FileRead {
-    Numbers { records: usize, numbers: usize },
-    Refused(Refusal),
+// Its name in the folder.
+impl fmt::Display for File {
+    fn fmt<W: fmt::Write>(&self, f: &mut fmt::Formatter<W>) -> fmt::Result {
+        f.write_str(match self {
+            File::Frame => "frame.csv",
+            File::States => "states.csv",
+            File::Moves => "moves.csv",
+            File::Presets => "presets.csv",
+            File::TimerPairs => "timerpairs.csv",
+            File::OutputPairs => "outputpairs.csv",
+            File::Scans => "scans.csv",
+        })
+    }
 }
 
-fn reader_for(file: File) -> Reader
+// How many records the file has, and how many numbers they are.
+#[derive(Clone, Copy)]
+pub struct FileRead {
+    pub records: usize,
+    pub numbers: usize,
+}
+
+// The reader of the file's records.
+pub fn reader_for(file: File) -> Reader
     ensures { result ≡ reader_for file }
 {
     match file {
@@ -35,8 +52,7 @@ fn reader_for(file: File) -> Reader
         File::States => Reader::states(),
         File::Moves => Reader::moves(),
         File::Presets => Reader::presets(),
-        File::TimerPairs => Reader::pairs(),
-        File::OutputPairs => Reader::pairs(),
+        File::TimerPairs | File::OutputPairs => Reader::pairs(),
         File::Scans => Reader::scans(),
     }
 }
@@ -47,42 +63,29 @@ fn row_for(file: File) -> usize
 {
     match file {
         File::Frame => 3,
-        File::States => 2,
+        File::States | File::TimerPairs | File::OutputPairs => 2,
         File::Moves => Chart::MOVE_ROW,
-        File::Presets => 1,
-        File::TimerPairs => 2,
-        File::OutputPairs => 2,
-        File::Scans => 1,
+        File::Presets | File::Scans => 1,
     }
 }
 
 // The file from its first byte to its end: it measures over an empty part, and writes over one with room.
-fn pass(file: File, bytes: &[u8], out: &mut [u64]) -> csv_records::RecordsAnswer
+fn pass(file: File, bytes: &[u8], out: &mut [u64]) -> Result<usize, Refusal>
     ensures { FilePassed file bytes.now out.old result out.new }
 {
-    let r = reader_for(file);
-    let s = csv_records::feed(r, bytes, out);
+    let s = csv_records::feed(reader_for(file), bytes, out);
     csv_records::finish(s, out)
 }
 
 // FIELD, then ROOM with how many numbers the file has; a refused file leaves out as it was.
-pub fn read_records(file: File, bytes: &[u8], out: &mut [u64]) -> FileRead
+pub fn read_records(file: File, bytes: &[u8], out: &mut [u64]) -> Result<FileRead, Refusal>
     ensures { RecordsRead file bytes.now out.old result out.new }
 {
-    let none = 0;
-    let measured = pass(file, bytes, &mut out[..none]);
-    match measured {
-        csv_records::RecordsAnswer::Rows(n) => {
-            let needed = n * row_for(file);
-            if out.len() < needed {
-                return FileRead::Refused(Refusal::Room(needed));
-            }
-            pass(file, bytes, out);
-            FileRead::Numbers {
-                records: n,
-                numbers: needed,
-            }
-        }
-        csv_records::RecordsAnswer::Refused(r) => FileRead::Refused(r),
+    let records = pass(file, bytes, &mut [])?;
+    let numbers = records * row_for(file);
+    if out.len() < numbers {
+        return Err(Refusal::Room(numbers));
     }
+    pass(file, bytes, out)?;
+    Ok(FileRead { records, numbers })
 }

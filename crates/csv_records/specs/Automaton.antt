@@ -1,21 +1,18 @@
 -- What a reader of records does with a byte, with many, and with the end of the file. That this is what document 01 says of the whole file is in crate reading.
-use Rattle.std.specs.Prelude.{◌≡◌, ℕ, ◌&&◌, ◌||◌, cond, List, [], ◌∷◌, ◌++◌, leb, ltb, eqb}
+use Rattle.meaning.specs.Refusals.{Answer}
+use Rattle.std.specs.Prelude.{◌≡◌, ℕ, ◌&&◌, ◌||◌, cond, List, [], ◌∷◌, ◌++◌, leb, ltb, eqb, Ok, Err, Some, None, Option}
 use Rattle.std.proofs.lemmas.List.Edits.{sets}
 use Rattle.meaning.specs.declared.Refusal.TheVariants as R
-use Rattle.csv_value.specs.declared.Decimal.{Decimal}
-use Rattle.csv_value.specs.declared.Decimal.TheVariants.{Is, IsNot}
 use Rattle.csv_field.specs.Field.{phase_after}
 use Rattle.csv_value.specs.Decimals.{decimal_of, returned, untouched, failed}
-use Rattle.csv_records.specs.declared.RecordsAnswer.{RecordsAnswer}
-use Rattle.csv_records.specs.declared.RecordsAnswer.TheVariants.{Rows, Refused}
 use Rattle.csv_cursor.specs.declared.Reader.{Reader}
 use Rattle.csv_cursor.specs.Passing.{count_up, reader_with, bad, ends, separator_fits, passed}
 
 -- ---- a byte
 
-unfoldable pub taken : Decimal → Reader → ℕ → Reader
-taken (Is v) r b = passed r b (count_up r.at)
-taken IsNot r b = bad r
+unfoldable pub taken : (Option ℕ) → Reader → ℕ → Reader
+taken (Some v) r b = passed r b (count_up r.at)
+taken None r b = bad r
 
 -- LF after CR ends the record, whose last field CR has ended
 unfoldable pub field_end : Reader → ℕ → Reader
@@ -25,9 +22,9 @@ unfoldable pub feed_byte : Reader → ℕ → Reader
 feed_byte r b = cond (leb r.limit r.record_no) (bad r)
     (cond (ends b) (field_end r b) (reader_with r (phase_after r.most r.below r.phase b) r.record_no r.left r.at))
 
-unfoldable pub numbers_of : Decimal → List ℕ
-numbers_of (Is v) = v ∷ []
-numbers_of IsNot = []
+unfoldable pub numbers_of : (Option ℕ) → List ℕ
+numbers_of (Some v) = v ∷ []
+numbers_of None = []
 
 unfoldable pub field_emits : Reader → ℕ → List ℕ
 field_emits r b = cond (separator_fits r.left b) (numbers_of (decimal_of r.phase)) []
@@ -52,8 +49,8 @@ emitted r (b ∷ bs) = emits r b ++ emitted (feed_byte r b) bs
 unfoldable pub at_end : Reader → Reader
 at_end r = cond (untouched r.phase) r (cond (returned r.phase) (bad r) (feed_byte r 10))
 
-unfoldable pub answer_of : Reader → RecordsAnswer
-answer_of r = cond (failed r.phase || ltb r.record_no r.least) (Refused (R.Field r.record_no)) (Rows r.record_no)
+unfoldable pub answer_of : Reader → Answer
+answer_of r = cond (failed r.phase || ltb r.record_no r.least) (Err (R.Field r.record_no)) (Ok r.record_no)
 
 -- ---- contracts
 
@@ -69,6 +66,6 @@ pub record Fed (r : Reader) (bytes out : List ℕ) (s : Reader) (left : List ℕ
   pub state : s ≡ feed_all r bytes
   pub stored : left ≡ sets out r.at (emitted r bytes)
 
-pub record Finished (r : Reader) (out : List ℕ) (a : RecordsAnswer) (left : List ℕ) : Type 0 where
+pub record Finished (r : Reader) (out : List ℕ) (a : Answer) (left : List ℕ) : Type 0 where
   pub answer : a ≡ answer_of (at_end r)
   pub stored : left ≡ sets out r.at (emits r 10)

@@ -1,13 +1,14 @@
 -- The way over bare numbers: a field at a time, with the same reader and the same stored numbers as byte after byte.
-use Rattle.std.specs.Prelude.{◌≡◌, ◌⊎◌, ℕ, suc, ◌+◌, ◌≤◌, ◌<◌, min, Bool, false, ◌&&◌, List, length, drop, get_or, ltb}
+use Rattle.std.specs.Prelude.{◌≡◌, ◌⊎◌, ℕ, suc, ◌+◌, ◌≤◌, ◌<◌, min, Bool, false, ◌&&◌, List, length, drop, get_or, set, ltb}
 use Rattle.std.proofs.lemmas.List.Edits.{sets}
+use Rattle.csv_field.specs.Field.{most64}
 use Rattle.csv_field.specs.declared.FieldPhase.{FieldPhase}
 use Rattle.csv_field.specs.declared.FieldPhase.TheVariants.{Number}
 use Rattle.csv_value.specs.Decimals.{begins, encoded}
 use Rattle.csv_cursor.specs.declared.Reader.{Reader}
 use Rattle.csv_bare.specs.declared.BareNumber.{BareNumber}
 use Rattle.csv_records.specs.declared.Stand.{Stand}
-use Rattle.csv_cursor.specs.Passing.{reader_with}
+use Rattle.csv_cursor.specs.Passing.{count_up, reader_with, passed}
 use Rattle.csv_records.specs.Automaton.{feed_all, emitted}
 
 -- the reader in another phase
@@ -35,6 +36,7 @@ pub record NumberRead (s : Reader) (bytes : List ℕ) (from : ℕ) (u : BareNumb
   pub size : ℕ
   pub value : u.value ≡ encoded negative size
   pub way : Silent s (in_phase s (Number false negative size)) bytes from u.end
+  pub on : from < u.end
 
 -- a comma with fields to come, LF with none
 abbrev pub InPlace : ℕ → ℕ → Type 0
@@ -46,11 +48,19 @@ Closes left bytes end last = ((last ≡ end) × InPlace left (get_or bytes end 0
 
 -- ---- contracts
 
-pub record Went (s : Reader) (bytes out : List ℕ) (from : ℕ) (t : Stand) (left : List ℕ) : Type 0 where
-  pub on : from ≤ t.next
-  pub turn : RecordTurn s t.reader bytes out left from t.next
+-- a field that is a bare number, stored, and what stands at u.end ends it
+pub record FieldTaken (s : Reader) (bytes : List ℕ) (from : ℕ) (u : BareNumber) : Type 0 where
+  pub on : from < u.end
+  pub inside : u.end < length bytes
+  pub turn : (out : List ℕ) → length out ≤ most64
+      → RecordTurn s (passed s (get_or bytes u.end 0) (count_up s.at)) bytes out (set out s.at u.value) from (u.end + 1)
+
+pub record Went (s : Stand) (bytes out : List ℕ) (t : Stand) (left : List ℕ) : Type 0 where
+  pub on : s.next ≤ t.next
+  pub inside : t.next ≤ length bytes
+  pub turn : RecordTurn s.reader t.reader bytes out left s.next t.next
 
 -- a byte on at least, while there is one
-pub record WentOn (s : Reader) (bytes out : List ℕ) (from : ℕ) (t : Stand) (left : List ℕ) : Type 0 where
-  pub went : Went s bytes out from t left
-  pub further : min (suc from) (length bytes) ≤ t.next
+pub record WentOn (s : Stand) (bytes out : List ℕ) (t : Stand) (left : List ℕ) : Type 0 where
+  pub went : Went s bytes out t left
+  pub further : min (suc s.next) (length bytes) ≤ t.next

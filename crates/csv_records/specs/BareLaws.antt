@@ -1,5 +1,5 @@
 -- Laws of Bare.antt: one byte, then runs of bytes, then a field with what ends it.
-use Rattle.std.specs.Prelude.{◌≡◌, ℕ, zero, suc, ◌+◌, ◌*◌, ◌-◌, ◌/◌, ◌≤◌, ◌<◌, Bool, ◌&&◌, cond, List, [], set, drop, eqb}
+use Rattle.std.specs.Prelude.{◌≡◌, ℕ, zero, suc, ◌+◌, ◌*◌, ◌-◌, ◌/◌, ◌≤◌, ◌<◌, Bool, ◌&&◌, cond, List, [], set, drop, eqb, Some, None, Option, option_map}
 use Rattle.std.proofs.Math.Path.{refl}
 use Rattle.std.proofs.Common.{sym, ap, ◌∙◌, add-one, length-set, drop-cons}
 use Rattle.std.proofs.Math.Logic.{inl, inr}
@@ -20,12 +20,12 @@ use Rattle.csv_field.specs.FieldLaws.{digit_first, digit_minus, digit_next}
 use Rattle.csv_value.specs.DecimalLaws.{begin_after}
 use Rattle.csv_cursor.specs.declared.Reader.{Reader}
 use Rattle.csv_bare.specs.declared.BareNumber.{BareNumber}
-use Rattle.csv_bare.specs.Bare.{takes_digit, digits_from, first, minus_from, bare_from, returns, end_from}
-use Rattle.csv_bare.specs.BareLaws.{digits_on, digits_stop, digits_end}
+use Rattle.csv_bare.specs.Bare.{takes_digit, digits_from, negated, first, number_from, bare_from, returns, end_from}
+use Rattle.csv_bare.specs.BareLaws.{digits_on, digits_stop, digits_end, digits_reach}
 use Rattle.csv_cursor.specs.Passing.{count_up, ends, passed}
 use Rattle.csv_records.specs.Automaton.{taken, field_end, feed_byte, numbers_of, field_emits, emits, feed_all, emitted, FedByte}
 use Rattle.csv_records.specs.StepLaws.{sets_next}
-use Rattle.csv_records.specs.Bare.{in_phase, ready, Silent, RecordTurn, NumberRead, InPlace, Closes}
+use Rattle.csv_records.specs.Bare.{in_phase, ready, Silent, RecordTurn, NumberRead, InPlace, Closes, FieldTaken}
 
 -- ---- bytes that store nothing
 
@@ -106,83 +106,96 @@ digits_way s negative limit g f bytes (suc k) i n h = elim (dec_le (suc i) (leng
   | no l ↦ rw (digits_end limit bytes i n (omega arith)) (silent_none _ _ _)
 ]
 
-module _ (s : Reader) (bytes : List ℕ) (i : ℕ) (r : ready s ≡ true) where
-  minus_numbered : get_or bytes i 0 ≡ 45 → i < (minus_from s.below bytes i).end → NumberRead s bytes i (minus_from s.below bytes i)
-  unfolding minus_from
-  minus_numbered f h = elim (which (ltb (i + 1) (length bytes) && first 49 s.below (get_or bytes (i + 1) 0))) [
+module _ (s : Reader) (bytes : List ℕ) (i : ℕ) (r : ready s ≡ true) (u : BareNumber) where
+  minus_numbered : get_or bytes i 0 ≡ 45 → (d : Option BareNumber) → d ≡ number_from 49 s.below bytes (i + 1) → option_map negated d ≡ Some u → NumberRead s bytes i u
+  unfolding number_from
+  minus_numbered f d p q = elim (which (ltb (i + 1) (length bytes) && first 49 s.below (get_or bytes (i + 1) 0))) [
     | inl e ↦ (let b = get_or bytes (i + 1) 0 in
         let l : i + 1 < length bytes = ltb-true (i + 1) (length bytes) (search and_l depth 14) in
-        let p : 49 ≤ b = leb-true 49 b (search (and_l, and_r) depth 14) in
-        let q : b ≤ 57 = leb-true b 57 (search (and_l, and_r) depth 14) in
+        let k : 49 ≤ b = leb-true 49 b (search (and_l, and_r) depth 14) in
+        let g : b ≤ 57 = leb-true b 57 (search (and_l, and_r) depth 14) in
         let m : b - 48 ≤ s.below = leb-true (b - 48) s.below (search (and_l, and_r) depth 14) in
-        rw e
+        let v = digits_from s.below (drop (i + 1 + 1) bytes) (i + 1 + 1) (b - 48) in
+        let z : d ≡ Some v = rw e at p in
+        let x : Some (negated v) ≡ Some u = rw z at q in
+        let y : negated v ≡ u = cc in
+        rw (← y)
         (record {
           negative = true;
-          size = (digits_from s.below (drop (i + 1 + 1) bytes) (i + 1 + 1) (b - 48)).value;
+          size = v.value;
           value = refl;
-          way = silent_then (silent_minus s bytes i r l f p q m) (digits_way s true s.below (ready_room s r) refl bytes (length bytes) (i + 1 + 1) (b - 48) (omega arith));
+          way = silent_then (silent_minus s bytes i r l f k g m) (digits_way s true s.below (ready_room s r) refl bytes (length bytes) (i + 1 + 1) (b - 48) (omega arith));
+          on = omega (arith, digits_reach s.below (drop (i + 1 + 1) bytes) (i + 1 + 1) (b - 48));
         }))
-    | inr e ↦ absurd (let z : i < i = rw e at h in omega arith)
+    | inr e ↦ (let z : d ≡ None = rw e at p in cc)
   ]
 
-  bare_numbered : i < (bare_from s.most s.below bytes i).end → NumberRead s bytes i (bare_from s.most s.below bytes i)
-  unfolding bare_from
-  bare_numbered h = elim (which (ltb i (length bytes))) [
-    | inl l ↦ elim (which (eqb (get_or bytes i 0) 45)) [
-      | inl e ↦ rw (l, e) (minus_numbered (eqb-true (get_or bytes i 0) 45 e) (rw (l, e) at h))
-      | inr e ↦ elim (which (first 48 s.most (get_or bytes i 0))) [
-        | inl f ↦ (let b = get_or bytes i 0 in
-            let p : 48 ≤ b = leb-true 48 b (search and_l depth 14) in
-            let q : b ≤ 57 = leb-true b 57 (search (and_l, and_r) depth 14) in
-            let m : b - 48 ≤ s.most = leb-true (b - 48) s.most (search (and_l, and_r) depth 14) in
-            rw (l, e, f)
-            (record {
-              negative = false;
-              size = (digits_from s.most (drop (i + 1) bytes) (i + 1) (b - 48)).value;
-              value = refl;
-              way = silent_then (silent_first s bytes i r (ltb-true i (length bytes) l) p q m) (digits_way s false s.most (ready_room s r) refl bytes (length bytes) (i + 1) (b - 48) (omega arith));
-            }))
-        | inr f ↦ absurd (let z : i < i = rw (l, e, f) at h in omega arith)
-      ]
-    ]
-    | inr l ↦ absurd (let z : i < i = rw l at h in omega arith)
+  digit_numbered : number_from 48 s.most bytes i ≡ Some u → NumberRead s bytes i u
+  unfolding number_from
+  digit_numbered q = elim (which (ltb i (length bytes) && first 48 s.most (get_or bytes i 0))) [
+    | inl e ↦ (let b = get_or bytes i 0 in
+        let l : i < length bytes = ltb-true i (length bytes) (search and_l depth 14) in
+        let k : 48 ≤ b = leb-true 48 b (search (and_l, and_r) depth 14) in
+        let g : b ≤ 57 = leb-true b 57 (search (and_l, and_r) depth 14) in
+        let m : b - 48 ≤ s.most = leb-true (b - 48) s.most (search (and_l, and_r) depth 14) in
+        let v = digits_from s.most (drop (i + 1) bytes) (i + 1) (b - 48) in
+        let z : Some v ≡ Some u = rw e at q in
+        let y : v ≡ u = cc in
+        rw (← y)
+        (record {
+          negative = false;
+          size = v.value;
+          value = refl;
+          way = silent_then (silent_first s bytes i r l k g m) (digits_way s false s.most (ready_room s r) refl bytes (length bytes) (i + 1) (b - 48) (omega arith));
+          on = omega (arith, digits_reach s.most (drop (i + 1) bytes) (i + 1) (b - 48));
+        }))
+    | inr e ↦ (let z : None ≡ Some u = rw e at q in cc)
   ]
 
   -- a field that is taken whole comes to its number
-  pub bare_way : (u : BareNumber) → u ≡ bare_from s.most s.below bytes i → i < u.end → NumberRead s bytes i u
-  bare_way u e h = rw e (bare_numbered (rw e at h))
+  pub bare_way : bare_from s.most s.below bytes i ≡ Some u → NumberRead s bytes i u
+  unfolding bare_from
+  bare_way q = elim (which (eqb (get_or bytes i 0) 45)) [
+    | inl e ↦ minus_numbered (eqb-true (get_or bytes i 0) 45 e) (number_from 49 s.below bytes (i + 1)) refl (rw e at q)
+    | inr e ↦ digit_numbered (rw e at q)
+  ]
 
 -- what ends it in its place
-module _ (left : ℕ) (bytes : List ℕ) (i end last : ℕ) (h : i < last) where
-  record_closes : i < end → end < length bytes → left ≡ 0 → last ≡ cond (eqb (get_or bytes end 0) 10) end (cond (returns bytes end) (end + 1) i) → (i < end) × (last < length bytes) × Closes left bytes end last
-  record_closes k l z p = elim (which (eqb (get_or bytes end 0) 10)) [
-    | inl e ↦ (let f : last ≡ end = rw e at p in (k, omega arith, inl (f, inr (eqb-true (get_or bytes end 0) 10 e, z))))
+module _ (left : ℕ) (bytes : List ℕ) (end last : ℕ) where
+  record_closes : end < length bytes → left ≡ 0 → cond (eqb (get_or bytes end 0) 10) (Some end) (cond (returns bytes end) (Some (end + 1)) None) ≡ Some last
+      → (end ≤ last) × (last < length bytes) × Closes left bytes end last
+  record_closes l z p = elim (which (eqb (get_or bytes end 0) 10)) [
+    | inl e ↦ (let g : Some end ≡ Some last = rw e at p in
+        let f : last ≡ end = cc in
+        (omega arith, omega arith, inl (f, inr (eqb-true (get_or bytes end 0) 10 e, z))))
     | inr e ↦ elim (which (returns bytes end)) [
-      | inl g ↦ (let f : last ≡ end + 1 = rw (e, g) at p in
+      | inl g ↦ (let k : Some (end + 1) ≡ Some last = rw (e, g) at p in
+          let f : last ≡ end + 1 = cc in
           let n : end + 1 < length bytes = ltb-true (end + 1) (length bytes) (search and_l depth 14) in
           let c : get_or bytes end 0 ≡ 13 = eqb-true (get_or bytes end 0) 13 (search (and_l, and_r) depth 14) in
           let d : get_or bytes (end + 1) 0 ≡ 10 = eqb-true (get_or bytes (end + 1) 0) 10 (search (and_l, and_r) depth 14) in
-          (k, omega arith, inr (f, c, rw f d, z)))
-      | inr g ↦ absurd (let f : last ≡ i = rw (e, g) at p in omega arith)
+          (omega arith, omega arith, inr (f, c, rw f d, z)))
+      | inr g ↦ (let k : None ≡ Some last = rw (e, g) at p in cc)
     ]
   ]
 
-  pub end_closes : last ≡ end_from left bytes i end → (i < end) × (last < length bytes) × Closes left bytes end last
+  pub end_closes : end_from left bytes end ≡ Some last → (end ≤ last) × (last < length bytes) × Closes left bytes end last
   unfolding end_from
-  end_closes p = elim (which (ltb i end && ltb end (length bytes))) [
-    | inl e ↦ (let k : i < end = ltb-true i end (and_l (ltb i end) (ltb end (length bytes)) e) in
-        let l : end < length bytes = ltb-true end (length bytes) (and_r (ltb i end) (ltb end (length bytes)) e) in
+  end_closes p = elim (which (ltb end (length bytes))) [
+    | inl e ↦ (let l : end < length bytes = ltb-true end (length bytes) e in
         elim (which (eqb (get_or bytes end 0) 44)) [
           | inl c ↦ elim (which (ltb 0 left)) [
-            | inl d ↦ (let f : last ≡ end = rw (e, c, d) at p in (k, omega arith, inl (f, inl (eqb-true (get_or bytes end 0) 44 c, ltb-true 0 left d))))
-            | inr d ↦ absurd (let f : last ≡ i = rw (e, c, d) at p in omega arith)
+            | inl d ↦ (let g : Some end ≡ Some last = rw (e, c, d) at p in
+                let f : last ≡ end = cc in
+                (omega arith, omega arith, inl (f, inl (eqb-true (get_or bytes end 0) 44 c, ltb-true 0 left d))))
+            | inr d ↦ (let k : None ≡ Some last = rw (e, c, d) at p in cc)
           ]
           | inr c ↦ elim (which (ltb 0 left)) [
-            | inl d ↦ absurd (let f : last ≡ i = rw (e, c, d) at p in omega arith)
-            | inr d ↦ record_closes k l (omega (arith, ltb-false 0 left d)) (rw (e, c, d) at p)
+            | inl d ↦ (let k : None ≡ Some last = rw (e, c, d) at p in cc)
+            | inr d ↦ record_closes l (omega (arith, ltb-false 0 left d)) (rw (e, c, d) at p)
           ]
         ])
-    | inr e ↦ absurd (let f : last ≡ i = rw e at p in omega arith)
+    | inr e ↦ (let k : None ≡ Some last = rw e at p in cc)
   ]
 
 -- ---- turns
@@ -251,3 +264,10 @@ module _ (s : Reader) (bytes out : List ℕ) (i : ℕ) (u : BareNumber) (k : len
       let f = turn_number 13 (omega (arith, e.0)) e.1 (fed_cr s w.negative w.size out (ready_room s r) e.3) in
       let t : FedByte (passed s 13 (count_up s.at)) (get_or bytes (u.end + 1) 0) (set out s.at u.value) (passed s 10 (count_up s.at)) (set out s.at u.value) = rw (← e.0, e.2) (fed_lf s (count_up s.at) (set out s.at u.value) (ready_room s r) e.3) in
       rw (e.2, e.0) (turn_then f (turn (passed s 13 (count_up s.at)) (passed s 10 (count_up s.at)) bytes (set out s.at u.value) (set out s.at u.value) (u.end + 1) (omega (arith, e.0)) l t))
+
+pub field_taken : (s : Reader) (bytes : List ℕ) (i : ℕ) → ready s ≡ true → (u : BareNumber) → bare_from s.most s.below bytes i ≡ Some u → (last : ℕ) → end_from s.left bytes u.end ≡ Some last
+    → FieldTaken s bytes i (record { end = last; value = u.value })
+field_taken s bytes i r u e last f =
+    let w = bare_way s bytes i r u e in
+    let h = end_closes s.left bytes u.end last f in
+    record { on = omega (arith, w.on, h.0); inside = h.1; turn = λ out k. turn_field s bytes out i u k r w last h.1 h.2 }

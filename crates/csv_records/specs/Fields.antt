@@ -1,5 +1,5 @@
 -- A field, byte after byte: the phase after its last byte tells whether its content is a decimal of its type, and which.
-use Rattle.std.specs.Prelude.{◌≡◌, ◌⊎◌, Bool, ◌&&◌, cond, length, get_or, take, drop, leb, eqb, ℤ, pos, negsuc, neg_ℤ}
+use Rattle.std.specs.Prelude.{◌≡◌, ◌⊎◌, Bool, ◌&&◌, cond, length, get_or, take, drop, leb, eqb, ℤ, pos, negsuc, neg_ℤ, Some, None, Option}
 use Rattle.std.proofs.Math.Path.{refl, ap}
 use Rattle.std.proofs.Common.{sym, ◌∙◌}
 use Rattle.std.proofs.Math.Logic.{inl, inr}
@@ -16,8 +16,6 @@ use Rattle.format.specs.Records.{same, spelt, decimal_within, negative, field_va
 use Rattle.format.proofs.Laws.Decimals.{huge, digit}
 use Rattle.csv_field.specs.declared.FieldPhase.{FieldPhase}
 use Rattle.csv_field.specs.declared.FieldPhase.TheVariants.{Fresh, Empty, Quote, Minus, Number, Closed, Return, Bad}
-use Rattle.csv_value.specs.declared.Decimal.{Decimal}
-use Rattle.csv_value.specs.declared.Decimal.TheVariants.{Is, IsNot}
 use Rattle.csv_field.specs.Field.{most64, digit_added, field_begun, number_after, phase_after}
 use Rattle.csv_value.specs.Decimals.{encoded, decimal_of}
 use Rattle.csv_field.specs.FieldLaws.{grown_low, grown_high, grown_past, grown_digit}
@@ -32,8 +30,8 @@ stored_number (negsuc n) = most64 - n
 unfoldable pub fits_in : ℕ → ℕ → List ℕ → Bool
 fits_in most below f = cond (negative f) (decimal_within 1 below (drop 1 f)) (decimal_within 0 most f)
 
-unfoldable pub told : ℕ → ℕ → List ℕ → Decimal
-told most below f = cond (fits_in most below f) (Is (stored_number (field_value f))) IsNot
+unfoldable pub told : ℕ → ℕ → List ℕ → (Option ℕ)
+told most below f = cond (fits_in most below f) (Some (stored_number (field_value f))) None
 
 unfoldable pub phase_all : ℕ → ℕ → FieldPhase → List ℕ → FieldPhase
 phase_all most below p [] = p
@@ -102,10 +100,10 @@ both_grown limit s n b = elim (which (between 48 57 b && leb (10 * n + (b - 48))
 ]
 
 module _ (most below : ℕ) (small : most ≤ most64) (little : below ≤ most64) where
-  abbrev after : FieldPhase → List ℕ → Decimal
+  abbrev after : FieldPhase → List ℕ → (Option ℕ)
   after p f = decimal_of (phase_all most below p f)
 
-  pub bad_after : (f : List ℕ) → after Bad f ≡ IsNot
+  pub bad_after : (f : List ℕ) → after Bad f ≡ None
   unfolding phase_all phase_after decimal_of
   bad_after [] = refl
   bad_after (b ∷ f) = bad_after f
@@ -137,7 +135,7 @@ module _ (most below : ℕ) (small : most ≤ most64) (little : below ≤ most64
 
   -- a number that is not 0 goes on
   number_after_lem : (s : Bool) (low : ℕ) → low ≤ 1 → (g : List ℕ) (n : ℕ) → 1 ≤ n → n ≤ limit_of s
-      → after (Number false s n) g ≡ cond (goes_on low (limit_of s) n g) (Is (encoded s (spelt n g))) IsNot
+      → after (Number false s n) g ≡ cond (goes_on low (limit_of s) n g) (Some (encoded s (spelt n g))) None
   unfolding phase_all phase_after number_after decimal_of spelt
   number_after_lem s low l [] n a h = rw (goes_end low (limit_of s) (limit_small s) n (omega arith) h)
   number_after_lem s low l (b ∷ g) n a h = elim (ℕ_discrete b 34) [
@@ -152,7 +150,7 @@ module _ (most below : ℕ) (small : most ≤ most64) (little : below ≤ most64
 
   -- the first digit, if it is no 0
   first_after : (s : Bool) (low : ℕ) → low ≤ 1 → (b : ℕ) (g : List ℕ) → (b ≡ 48 → ⊥)
-      → after (digit_added (limit_of s) false s 0 b) g ≡ cond (decimal_within low (limit_of s) (b ∷ g)) (Is (encoded s (spelt 0 (b ∷ g)))) IsNot
+      → after (digit_added (limit_of s) false s 0 b) g ≡ cond (decimal_within low (limit_of s) (b ∷ g)) (Some (encoded s (spelt 0 (b ∷ g)))) None
   unfolding spelt
   first_after s low l b g z = elim (grown_cases s 0 b) [
     | inl c ↦ (let e : 10 * 0 + (b - 48) ≡ b - 48 = omega arith in
@@ -166,7 +164,7 @@ module _ (most below : ℕ) (small : most ≤ most64) (little : below ≤ most64
   zero_within g = within_digit 0 most (limit_small false) 48 g (omega arith) (omega arith)
 
   -- "0", and nothing after it
-  zero_after : (g : List ℕ) → after (Number false false 0) g ≡ cond (decimal_within 0 most (48 ∷ g)) (Is (spelt 0 (48 ∷ g))) IsNot
+  zero_after : (g : List ℕ) → after (Number false false 0) g ≡ cond (decimal_within 0 most (48 ∷ g)) (Some (spelt 0 (48 ∷ g))) None
   unfolding phase_all phase_after number_after decimal_of spelt
   zero_after [] = rw (zero_within [], goes_end 0 most (limit_small false) 0 (omega arith) (omega arith))
   zero_after (d ∷ g) = rw (zero_within (d ∷ g), goes_zero 0 most (limit_small false) d g) (elim (which (eqb d 34)) [ inl e ↦ rw e (bad_after g) | inr e ↦ rw e (bad_after g) ])
@@ -176,13 +174,13 @@ module _ (most below : ℕ) (small : most ≤ most64) (little : below ≤ most64
   minus_zero [] = within_digit 1 below (limit_small true) 48 [] (omega arith) (omega arith) ∙ goes_low 1 below (limit_small true) 0 (omega arith)
   minus_zero (d ∷ g) = within_digit 1 below (limit_small true) 48 (d ∷ g) (omega arith) (omega arith) ∙ goes_zero 1 below (limit_small true) d g
 
-  plain_after : (b : ℕ) (g : List ℕ) → after (digit_added most false false 0 b) g ≡ cond (decimal_within 0 most (b ∷ g)) (Is (spelt 0 (b ∷ g))) IsNot
+  plain_after : (b : ℕ) (g : List ℕ) → after (digit_added most false false 0 b) g ≡ cond (decimal_within 0 most (b ∷ g)) (Some (spelt 0 (b ∷ g))) None
   plain_after b g = elim (ℕ_discrete b 48) [
     | yes y ↦ rw (y, grown_digit most false false 0 48 (omega arith) (omega arith) (omega arith)) (zero_after g)
     | no y ↦ first_after false 0 (omega arith) b g y
   ]
 
-  minus_after : (f : List ℕ) → after (Minus false) f ≡ cond (decimal_within 1 below f) (Is (encoded true (spelt 0 f))) IsNot
+  minus_after : (f : List ℕ) → after (Minus false) f ≡ cond (decimal_within 1 below f) (Some (encoded true (spelt 0 f))) None
   unfolding phase_all phase_after decimal_of
   minus_after [] = rw (within_none 1 below (limit_small true))
   minus_after (b ∷ g) = elim (ℕ_discrete b 48) [
@@ -199,7 +197,7 @@ module _ (most below : ℕ) (small : most ≤ most64) (little : below ≤ most64
   unfolding decimal_within
   within_from f e = leb-true 1 (spelt 0 f) (and_l (leb 1 (spelt 0 f)) (leb (spelt 0 f) below) (and_r (same (decimal (spelt 0 f)) f) (between 1 below (spelt 0 f)) e))
 
-  minus_told : (f : List ℕ) → cond (decimal_within 1 below f) (Is (encoded true (spelt 0 f))) IsNot ≡ cond (decimal_within 1 below f) (Is (stored_number (neg_ℤ (pos (spelt 0 f))))) IsNot
+  minus_told : (f : List ℕ) → cond (decimal_within 1 below f) (Some (encoded true (spelt 0 f))) None ≡ cond (decimal_within 1 below f) (Some (stored_number (neg_ℤ (pos (spelt 0 f))))) None
   minus_told f = elim (which (decimal_within 1 below f)) [
     | inl e ↦ rw (e, stored_negative (spelt 0 f) (within_from f e))
     | inr e ↦ rw e
@@ -227,7 +225,7 @@ module _ (most below : ℕ) (small : most ≤ most64) (little : below ≤ most64
   unfolding phase_after field_begun quoted
   both_first b h = rw (ne_eqb b 34 h) (elim (which (eqb b 45)) [ inl e ↦ rw e (refl, minus) | inr e ↦ rw e (both_grown most false 0 b) ])
 
-  quoted_open : (p : FieldPhase) → Bare p → decimal_of (quoted p) ≡ IsNot
+  quoted_open : (p : FieldPhase) → Bare p → decimal_of (quoted p) ≡ None
   unfolding decimal_of quoted
   quoted_open _ minus = refl
   quoted_open _ (number s n) = refl
@@ -252,11 +250,11 @@ module _ (most below : ℕ) (small : most ≤ most64) (little : below ≤ most64
   close_within _ (number s n) d = refl
   close_within _ dead d = refl
 
-  never : (t : Bool) → IsNot ≡ cond t IsNot IsNot
+  never : (t : Bool) → ◌≡◌ {A = Option ℕ} None (cond t None None)
   never true = refl
   never false = refl
 
-  quoted_after : (g : List ℕ) (p : FieldPhase) → Bare p → after (quoted p) g ≡ cond (closes g) (after p (but_last g)) IsNot
+  quoted_after : (g : List ℕ) (p : FieldPhase) → Bare p → after (quoted p) g ≡ cond (closes g) (after p (but_last g)) None
   unfolding phase_all closes but_last
   quoted_after [] p h = quoted_open p h
   quoted_after (b ∷ []) p h = elim (ℕ_discrete b 34) [
@@ -268,19 +266,19 @@ module _ (most below : ℕ) (small : most ≤ most64) (little : below ≤ most64
     | no y ↦ (let s = both_step p h b y in rw s.0 (quoted_after (d ∷ g) (phase_after most below p b) s.1))
   ]
 
-  quote_told : (g : List ℕ) → told most below (34 ∷ g) ≡ IsNot
+  quote_told : (g : List ℕ) → told most below (34 ∷ g) ≡ None
   unfolding told fits_in negative
   quote_told g = rw (within_other 0 most (limit_small false) 34 g refl)
 
-  none_told : told most below [] ≡ IsNot
+  none_told : told most below [] ≡ None
   unfolding told fits_in negative
   none_told = rw (within_none 0 most (limit_small false))
 
-  closed_told : (t : Bool) (g : List ℕ) → cond t (told most below (but_last g)) IsNot ≡ told most below (cond t (but_last g) (34 ∷ g))
+  closed_told : (t : Bool) (g : List ℕ) → cond t (told most below (but_last g)) None ≡ told most below (cond t (but_last g) (34 ∷ g))
   closed_told true g = refl
   closed_told false g = sym (quote_told g)
 
-  quoted_open_first : decimal_of Quote ≡ IsNot
+  quoted_open_first : decimal_of Quote ≡ None
   unfolding decimal_of
   quoted_open_first = refl
 
@@ -288,7 +286,7 @@ module _ (most below : ℕ) (small : most ≤ most64) (little : below ≤ most64
   unfolding phase_after digit_added
   quote_first = refl
 
-  quote_after : (g : List ℕ) → after Quote g ≡ cond (closes g) (told most below (but_last g)) IsNot
+  quote_after : (g : List ℕ) → after Quote g ≡ cond (closes g) (told most below (but_last g)) None
   unfolding phase_all closes but_last
   quote_after [] = quoted_open_first
   quote_after (b ∷ []) = elim (ℕ_discrete b 34) [

@@ -1,5 +1,5 @@
 -- A record, byte after byte: it passes or not by its fields, and stores their numbers.
-use Rattle.std.specs.Prelude.{◌≡◌, ◌⊎◌, Bool, ◌&&◌, not, cond, length, leb, eqb}
+use Rattle.std.specs.Prelude.{◌≡◌, ◌⊎◌, Bool, ◌&&◌, not, cond, length, leb, eqb, Some, None, Option}
 use Rattle.std.proofs.Math.Path.{refl}
 use Rattle.std.proofs.Common.{sym, ap, ◌∙◌}
 use Rattle.std.proofs.Math.Logic.{inl, inr}
@@ -18,8 +18,6 @@ use Rattle.format.specs.Records.{front, pieces, without_cr}
 use Rattle.format.proofs.Laws.Lines.{one_line}
 use Rattle.csv_field.specs.declared.FieldPhase.{FieldPhase}
 use Rattle.csv_field.specs.declared.FieldPhase.TheVariants.{Fresh, Empty, Quote, Minus, Number, Closed, Return, Bad}
-use Rattle.csv_value.specs.declared.Decimal.{Decimal}
-use Rattle.csv_value.specs.declared.Decimal.TheVariants.{Is, IsNot}
 use Rattle.csv_cursor.specs.declared.Reader.{Reader}
 use Rattle.csv_field.specs.Field.{digit_added, field_begun, number_after, phase_after}
 use Rattle.csv_value.specs.Decimals.{decimal_of, returned, untouched}
@@ -49,9 +47,9 @@ trimmed_cons true b (d ∷ q) h = refl
 
 -- ---- the fields of a record
 
-abbrev pub is_number : Decimal → Bool
-is_number (Is v) = true
-is_number IsNot = false
+abbrev pub is_number : (Option ℕ) → Bool
+is_number (Some v) = true
+is_number None = false
 
 module _ (most below : ℕ) where
   -- the fields that are left, the first of them from phase p on: as many as asked, each a decimal
@@ -115,9 +113,9 @@ after_live most below (Closed s n) b = (refl, refl)
 after_live most below Return b = (refl, refl)
 after_live most below Bad b = (refl, refl)
 
-tell : (d : Decimal) → ((v : ℕ) × (d ≡ Is v)) ⊎ (d ≡ IsNot)
-tell (Is v) = inl (v, refl)
-tell IsNot = inr refl
+tell : (d : (Option ℕ)) → ((v : ℕ) × (d ≡ Some v)) ⊎ (d ≡ None)
+tell (Some v) = inl (v, refl)
+tell None = inr refl
 
 -- CR is in no decimal
 return_phase : (most below : ℕ) (p : FieldPhase) → phase_after most below p 13 ≡ Bad
@@ -193,12 +191,12 @@ module _ (r : Reader) (room : r.record_no < r.limit) where
   -- ---- a byte that ends a field
 
   -- at p is no CR
-  end_is : (p : FieldPhase) (l a b v : ℕ) → (eqb b 10 && returned p) ≡ false → ends b ≡ true → separator_fits l b ≡ true → decimal_of p ≡ Is v
+  end_is : (p : FieldPhase) (l a b v : ℕ) → (eqb b 10 && returned p) ≡ false → ends b ≡ true → separator_fits l b ≡ true → decimal_of p ≡ Some v
       → (feed_byte (at p l a) b ≡ passed (at p l a) b (count_up a)) × (emits (at p l a) b ≡ v ∷ [])
   unfolding feed_byte field_end taken emits field_emits numbers_of
   end_is p l a b v h e f d = (rw (in_room, e, h, f, d), rw (in_room, e, f, d))
 
-  end_not : (p : FieldPhase) (l a b : ℕ) → (eqb b 10 && returned p) ≡ false → ends b ≡ true → decimal_of p ≡ IsNot → feed_byte (at p l a) b ≡ at Bad l a
+  end_not : (p : FieldPhase) (l a b : ℕ) → (eqb b 10 && returned p) ≡ false → ends b ≡ true → decimal_of p ≡ None → feed_byte (at p l a) b ≡ at Bad l a
   unfolding feed_byte field_end taken
   end_not p l a b h e d = rw (in_room, e, h) (elim (which (separator_fits l b)) [ inl f ↦ rw (f, d) | inr f ↦ rw f ])
 
@@ -297,11 +295,11 @@ module _ (r : Reader) (room : r.record_no < r.limit) where
   line_13 true [] h p l a e = rw (append-nil (emits (at p l a) 13)) (line_lf p l a e)
 
   -- a comma, and the rest by induction
-  comma_passes : (p : FieldPhase) (l : ℕ) (q : List ℕ) (v : ℕ) → decimal_of p ≡ Is v → passes p (suc l) ([] ∷ pieces 44 q) ≡ passes Empty l (pieces 44 q)
+  comma_passes : (p : FieldPhase) (l : ℕ) (q : List ℕ) (v : ℕ) → decimal_of p ≡ Some v → passes p (suc l) ([] ∷ pieces 44 q) ≡ passes Empty l (pieces 44 q)
   unfolding rest_passes phase_all all
   comma_passes p l q v d = (let c = pieces_cons 44 q in rw (c.2, d, eqb-suc-suc (length c.1) l))
 
-  comma_values : (p : FieldPhase) (q : List ℕ) (v : ℕ) → decimal_of p ≡ Is v → values p ([] ∷ pieces 44 q) ≡ v ∷ values Empty (pieces 44 q)
+  comma_values : (p : FieldPhase) (q : List ℕ) (v : ℕ) → decimal_of p ≡ Some v → values p ([] ∷ pieces 44 q) ≡ v ∷ values Empty (pieces 44 q)
   unfolding rest_numbers phase_all numbers_of flat_map
   comma_values p q v d = (let c = pieces_cons 44 q in rw (c.2, d))
 
@@ -309,7 +307,7 @@ module _ (r : Reader) (room : r.record_no < r.limit) where
   unfolding rest_passes
   comma_many p q = (let c = pieces_cons 44 q in rw (c.2, eqb-suc-zero (length c.1)))
 
-  comma_not : (p : FieldPhase) (l : ℕ) (q : List ℕ) → decimal_of p ≡ IsNot → passes p l ([] ∷ pieces 44 q) ≡ false
+  comma_not : (p : FieldPhase) (l : ℕ) (q : List ℕ) → decimal_of p ≡ None → passes p l ([] ∷ pieces 44 q) ≡ false
   unfolding rest_passes phase_all
   comma_not p l q d = rw d (and-false (eqb (length (pieces 44 q)) l))
 

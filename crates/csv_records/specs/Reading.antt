@@ -1,7 +1,8 @@
 -- The reader tells of a file what document 01 says: FIELD at the least record that does not pass, or how many records there are; and it stores their numbers.
+use Rattle.meaning.specs.Refusals.{Answer}
 use Rattle.std.proofs.Math.Path.{◌≡◌, refl, sym}
 use Rattle.std.proofs.Common.{ap, ◌∙◌}
-use Rattle.std.specs.Prelude.{◌⊎◌, Bool, ◌&&◌, cond, drop, leb, ltb, eqb}
+use Rattle.std.specs.Prelude.{◌⊎◌, Bool, ◌&&◌, cond, drop, leb, ltb, eqb, Ok, Err, Option}
 use Rattle.std.proofs.Math.Logic.{inl, inr}
 use Prim.Native.Nat.{ℕ, zero, suc, ◌+◌, ◌-◌, ◌^◌, ◌≤◌, ◌<◌, max}
 use native.Mathlib.Omega.{arith}
@@ -23,9 +24,6 @@ use Rattle.format.specs.Printed.{record_at}
 use Rattle.format.proofs.Laws.Decimals.{huge}
 use Rattle.csv_field.specs.declared.FieldPhase.{FieldPhase}
 use Rattle.csv_field.specs.declared.FieldPhase.TheVariants.{Fresh, Empty}
-use Rattle.csv_value.specs.declared.Decimal.{Decimal}
-use Rattle.csv_records.specs.declared.RecordsAnswer.{RecordsAnswer}
-use Rattle.csv_records.specs.declared.RecordsAnswer.TheVariants.{Rows, Refused}
 use Rattle.csv_cursor.specs.declared.Reader.{Reader}
 use Rattle.csv_field.specs.Field.{most64}
 use Rattle.csv_value.specs.Decimals.{decimal_of}
@@ -56,7 +54,7 @@ minus_none most h [] e = absurd (false≢true e)
 minus_none most h (b ∷ f) e = (let z = eqb-true b 45 e in within_other 0 most h b f (rw z))
 
 module _ (t : Column) (small : most_of t ≤ most64) (little : below_of t ≤ most64) where
-  abbrev after : FieldPhase → List ℕ → Decimal
+  abbrev after : FieldPhase → List ℕ → (Option ℕ)
   after p f = decimal_of (phase_all (most_of t) (below_of t) p f)
 
   pub column_fits : (f : List ℕ) → decimal_fits t f ≡ fits_in (most_of t) (below_of t) f
@@ -128,12 +126,12 @@ abbrev ok_at : Reader → ℕ → List ℕ → Bool
 ok_at r i x = ltb i r.limit && rest_passes r.most r.below Fresh r.more (pieces 44 x)
 
 pub record Good (r : Reader) (k : ℕ) (xs : List (List ℕ)) : Type 0 where
-  pub answer : upshot r k xs ≡ Rows (k + length xs)
+  pub answer : upshot r k xs ≡ Ok (k + length xs)
   pub enough : r.least ≤ k + length xs
   pub passing : (j : ℕ) → j < length xs → ok_at r (k + j) (get_or xs j []) ≡ true
 
 pub record Wrong (r : Reader) (k : ℕ) (xs : List (List ℕ)) (j : ℕ) : Type 0 where
-  pub answer : upshot r k xs ≡ Refused (R.Field (k + j))
+  pub answer : upshot r k xs ≡ Err (R.Field (k + j))
   pub at : ((j < length xs) × (ok_at r (k + j) (get_or xs j []) ≡ false)) ⊎ ((j ≡ length xs) × (k + j < r.least))
   pub before : (i : ℕ) → i < j → ok_at r (k + i) (get_or xs i []) ≡ true
 
@@ -152,14 +150,14 @@ come r (x ∷ xs) k = (let z : k + 0 ≡ k = omega arith in elim (which (ok_at r
   | inr e ↦ inr (0, record { answer = rw (e, z); at = inl (omega arith, rw z e); before = λ i h. absurd (omega arith) })
   | inl e ↦ elim (come r xs (suc k)) [
     | inl g ↦ inl (record {
-      answer = rw e (g.answer ∙ ap Rows (omega arith));
+      answer = rw e (g.answer ∙ ap Ok (omega arith));
       enough = omega (arith, g.enough);
       passing = later r x xs k (length xs) e g.passing;
     })
     | inr (j, g) ↦ inr (
       suc j,
       record {
-        answer = rw e (g.answer ∙ ap (λ (n : ℕ). Refused (R.Field n)) (omega arith));
+        answer = rw e (g.answer ∙ ap (λ (n : ℕ). Err (R.Field n)) (omega arith));
         at = elim g.at [
           | inl a ↦ inl (omega (arith, a.0), (let y : k + suc j ≡ suc k + j = omega arith in rw y a.1))
           | inr a ↦ inr (ap suc a.0, omega (arith, a.1))
@@ -177,8 +175,8 @@ unfoldable pub limited : Column → ℕ → ℕ → ℕ → List ℕ → Check
 limited t more few limit bs = record { refusal = R.Field; rows = max few (length (records bs)); passes = λ i. ltb i limit && record_passes t (suc more) (record_at bs i) }
 
 -- a check's answer of a file of n records
-unfoldable pub answered : Check → ℕ → RecordsAnswer
-answered k n = cond (eqb (first_failing k) k.rows) (Rows n) (Refused (k.refusal (first_failing k)))
+unfoldable pub answered : Check → ℕ → Answer
+answered k n = cond (eqb (first_failing k) k.rows) (Ok n) (Err (k.refusal (first_failing k)))
 
 module _ (t : Column) (more few limit : ℕ) (small : most_of t ≤ most64) (little : below_of t ≤ most64) (fits : limit ≤ most64) (bs : List ℕ) where
   abbrev reader : Reader
@@ -234,14 +232,14 @@ module _ (t : Column) (more few limit : ℕ) (small : most_of t ≤ most64) (lit
   read_answer = whole.answer ∙ elim (come reader (records bs) 0) [ inl g ↦ good_answer g | inr (j, w) ↦ wrong_answer j w ]
 
   -- where it counts records, each passes
-  pub read_passing : (n : ℕ) → answer_of (at_end (feed_all reader bs)) ≡ Rows n → (j : ℕ) → j < length (records bs) → record_passes t (suc more) (get_or (records bs) j []) ≡ true
+  pub read_passing : (n : ℕ) → answer_of (at_end (feed_all reader bs)) ≡ Ok n → (j : ℕ) → j < length (records bs) → record_passes t (suc more) (get_or (records bs) j []) ≡ true
   unfolding record_at limited
   read_passing n e = elim (come reader (records bs) 0) [
     | inl g ↦ (λ j h. and_r (ltb j limit) (record_passes t (suc more) (get_or (records bs) j [])) (ok_at_lem j true (g.passing j h)))
-    | inr (j, w) ↦ (let p : upshot reader 0 (records bs) ≡ Rows n = sym whole.answer ∙ e in let q = w.answer in let z : ◌≡◌ {A = ℕ} 0 1 = cc in absurd (omega arith))
+    | inr (j, w) ↦ (let p : upshot reader 0 (records bs) ≡ Ok n = sym whole.answer ∙ e in let q = w.answer in let z : ◌≡◌ {A = ℕ} 0 1 = cc in absurd (omega arith))
   ]
 
   -- and the numbers are those of the file
-  pub read_numbers : (n : ℕ) → answer_of (at_end (feed_all reader bs)) ≡ Rows n → emitted reader bs ++ emits (feed_all reader bs) 10 ≡ map stored_number (numbers bs)
+  pub read_numbers : (n : ℕ) → answer_of (at_end (feed_all reader bs)) ≡ Ok n → emitted reader bs ++ emits (feed_all reader bs) 10 ≡ map stored_number (numbers bs)
   unfolding numbers record_numbers
   read_numbers n e = whole.numbers n (sym whole.answer ∙ e) ∙ numbers_stored t small little more (records bs) (read_passing n e)

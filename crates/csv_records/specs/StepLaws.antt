@@ -1,11 +1,9 @@
 -- Laws of Automaton.antt, case by case: what the code's branches and the theorems use.
-use Rattle.std.specs.Prelude.{◌≡◌, refl, ◌⊎◌, ℕ, suc, ◌≤◌, true, ◌&&◌, cond, List, [], ◌∷◌, ◌++◌, length, set, leb, ltb, eqb}
+use Rattle.std.specs.Prelude.{◌≡◌, refl, ◌⊎◌, ℕ, suc, ◌≤◌, true, ◌&&◌, cond, List, [], ◌∷◌, ◌++◌, length, set, leb, ltb, eqb, Some, None, Option}
 use Rattle.std.proofs.Common.{sym, ◌∙◌, inl, inr, add-one, arith, ltb-false}
 use Rattle.std.proofs.lemmas.List.Edits.{sets}
 use Rattle.std.proofs.Math.Seq.{set_out}
 use Rattle.meaning.proofs.Laws.Rows.{which, and_r, sets_out}
-use Rattle.csv_value.specs.declared.Decimal.{Decimal}
-use Rattle.csv_value.specs.declared.Decimal.TheVariants.{Is, IsNot}
 use Rattle.csv_field.specs.Field.{most64}
 use Rattle.csv_value.specs.Decimals.{decimal_of, returned, untouched}
 use Rattle.csv_value.specs.DecimalLaws.{return_none, fresh_none}
@@ -32,10 +30,10 @@ passed_at r b at = elim (which (eqb b 44)) [
 abbrev Next : Reader → List ℕ → Reader → Type 0
 Next r w s = ((w ≡ []) × (s.at ≡ r.at)) ⊎ ((v : ℕ) × (w ≡ v ∷ []) × (s.at ≡ count_up r.at))
 
-taken_next : (d : Decimal) (r : Reader) (b : ℕ) → Next r (numbers_of d) (taken d r b)
+taken_next : (d : (Option ℕ)) (r : Reader) (b : ℕ) → Next r (numbers_of d) (taken d r b)
 unfolding numbers_of taken
-taken_next (Is v) r b = inr (v, refl, passed_at r b (count_up r.at))
-taken_next IsNot r b = inl (refl, refl)
+taken_next (Some v) r b = inr (v, refl, passed_at r b (count_up r.at))
+taken_next None r b = inl (refl, refl)
 
 pub return_emits : (r : Reader) (b : ℕ) → returned r.phase ≡ true → field_emits r b ≡ []
 unfolding field_emits numbers_of
@@ -79,3 +77,5 @@ fresh_emits_lf r e = elim (which (leb r.limit r.record_no)) [
   | inl f ↦ rw f
   | inr f ↦ elim (which (separator_fits r.left 10)) [ inl g ↦ rw (f, g, fresh_none r.phase e) | inr g ↦ rw (f, g) ]
 ]
+
+pub ruleset none_at_end = (return_emits_lf, fresh_emits_lf)

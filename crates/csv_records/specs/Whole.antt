@@ -1,5 +1,6 @@
 -- A file, record after record, from a fresh reader to its answer.
-use Rattle.std.specs.Prelude.{◌≡◌, ◌&&◌, not, cond, leb, ltb, eqb}
+use Rattle.meaning.specs.Refusals.{Answer}
+use Rattle.std.specs.Prelude.{◌≡◌, ◌&&◌, not, cond, leb, ltb, eqb, Ok, Err, Some, None, Option}
 use Rattle.std.proofs.Math.Path.{refl, sym, ap}
 use Rattle.std.proofs.Common.{◌∙◌, arith, add-one, lt-ltb, le-leb, leb-true, leb-false, ltb-false, ltb-true, eqb-true}
 use Rattle.std.proofs.Math.Logic.{inl, inr}
@@ -14,10 +15,6 @@ use Rattle.meaning.specs.declared.Refusal.TheVariants as R
 use Rattle.format.specs.Records.{front, pieces, without_cr, ended_records}
 use Rattle.format.proofs.Laws.Lines.{one_line}
 use Rattle.csv_field.specs.declared.FieldPhase.TheVariants.{Fresh, Bad}
-use Rattle.csv_value.specs.declared.Decimal.{Decimal}
-use Rattle.csv_value.specs.declared.Decimal.TheVariants.{Is, IsNot}
-use Rattle.csv_records.specs.declared.RecordsAnswer.{RecordsAnswer}
-use Rattle.csv_records.specs.declared.RecordsAnswer.TheVariants.{Rows, Refused}
 use Rattle.csv_cursor.specs.declared.Reader.{Reader}
 use Rattle.csv_field.specs.Field.{most64}
 use Rattle.csv_value.specs.Decimals.{decimal_of, untouched}
@@ -86,7 +83,7 @@ module _ (r : Reader) where
   dead_all (b ∷ bs) k l a = rw (dead_byte k l a b) (dead_all bs k l a)
 
   -- the answer of a reader that has failed
-  dead_answer : (k l a : ℕ) → answer_of (at_end (dead k l a)) ≡ Refused (R.Field k)
+  dead_answer : (k l a : ℕ) → answer_of (at_end (dead k l a)) ≡ Err (R.Field k)
   unfolding at_end answer_of
   dead_answer k l a = rw (dead_byte k l a 10)
 
@@ -104,10 +101,10 @@ passed_touched s b a e f = elim (which (eqb b 44)) [
   | inr g ↦ elim (which (eqb b 13)) [ inl h ↦ rw (g, h) | inr h ↦ (let z : false ≡ true = rw (g, e, h) at f in absurd (false≢true z)) ]
 ]
 
-taken_touched : (d : Decimal) (s : Reader) (b : ℕ) → eqb b 10 ≡ false → ends b ≡ true → untouched (taken d s b).phase ≡ false
+taken_touched : (d : (Option ℕ)) (s : Reader) (b : ℕ) → eqb b 10 ≡ false → ends b ≡ true → untouched (taken d s b).phase ≡ false
 unfolding taken
-taken_touched (Is v) s b e f = passed_touched s b (count_up s.at) e f
-taken_touched IsNot s b e f = refl
+taken_touched (Some v) s b e f = passed_touched s b (count_up s.at) e f
+taken_touched None s b e f = refl
 
 byte_touched : (s : Reader) (b : ℕ) → eqb b 10 ≡ false → untouched (feed_byte s b).phase ≡ false
 unfolding feed_byte field_end
@@ -137,16 +134,16 @@ end_line b q s h = end_closed (feed_all (feed_byte s b) q)
 -- ---- the file
 
 -- what the records xs come to, the first of them being number k
-unfoldable pub upshot : Reader → ℕ → List (List ℕ) → RecordsAnswer
-upshot r k [] = cond (ltb k r.least) (Refused (R.Field k)) (Rows k)
-upshot r k (x ∷ xs) = cond (ltb k r.limit && rest_passes r.most r.below Fresh r.more (pieces 44 x)) (upshot r (suc k) xs) (Refused (R.Field k))
+unfoldable pub upshot : Reader → ℕ → List (List ℕ) → Answer
+upshot r k [] = cond (ltb k r.least) (Err (R.Field k)) (Ok k)
+upshot r k (x ∷ xs) = cond (ltb k r.limit && rest_passes r.most r.below Fresh r.more (pieces 44 x)) (upshot r (suc k) xs) (Err (R.Field k))
 
 unfoldable pub record_numbers : Reader → List ℕ → List ℕ
 record_numbers r x = rest_numbers r.most r.below Fresh (pieces 44 x)
 
 pub record FileTold (r : Reader) (k a : ℕ) (bs : List ℕ) (xs : List (List ℕ)) : Type 0 where
   pub answer : answer_of (at_end (feed_all (reader_at r k a) bs)) ≡ upshot r k xs
-  pub numbers : (n : ℕ) → upshot r k xs ≡ Rows n → emitted (reader_at r k a) bs ++ emits (feed_all (reader_at r k a) bs) 10 ≡ flat_map (record_numbers r) xs
+  pub numbers : (n : ℕ) → upshot r k xs ≡ Ok n → emitted (reader_at r k a) bs ++ emits (feed_all (reader_at r k a) bs) 10 ≡ flat_map (record_numbers r) xs
 
 module _ (r : Reader) (separator_fits : r.limit ≤ most64) where
   up_is : (k : ℕ) → k < r.limit → count_up k ≡ suc k
@@ -156,7 +153,7 @@ module _ (r : Reader) (separator_fits : r.limit ≤ most64) where
   unfolding feed_all emitted at_end answer_of upshot flat_map
   told_none k a = record { answer = refl; numbers = λ n e. fresh_emits_lf (reader_at r k a) refl }
 
-  refused : (k a : ℕ) (bs : List ℕ) (xs : List (List ℕ)) → answer_of (at_end (feed_all (reader_at r k a) bs)) ≡ Refused (R.Field k) → upshot r k xs ≡ Refused (R.Field k) → FileTold r k a bs xs
+  refused : (k a : ℕ) (bs : List ℕ) (xs : List (List ℕ)) → answer_of (at_end (feed_all (reader_at r k a) bs)) ≡ Err (R.Field k) → upshot r k xs ≡ Err (R.Field k) → FileTold r k a bs xs
   refused k a bs xs e f = record { answer = e ∙ sym f; numbers = λ n g. (let z : ◌≡◌ {A = ℕ} 0 1 = cc in absurd (omega arith)) }
 
   over : (k a : ℕ) (bs x : List ℕ) (xs : List (List ℕ)) → ltb k r.limit ≡ false → (bs ≡ [] → ⊥) → FileTold r k a bs (x ∷ xs)
@@ -164,7 +161,7 @@ module _ (r : Reader) (separator_fits : r.limit ≤ most64) where
   over k a bs x xs e n = refused k a bs (x ∷ xs) (rw (over_all r bs k a (ltb-false k r.limit e) n) (dead_answer r k r.more a)) (rw e)
 
   -- record k does not pass
-  failing : (k a : ℕ) (bs x : List ℕ) (xs : List (List ℕ)) → answer_of (at_end (feed_all (reader_at r k a) bs)) ≡ Refused (R.Field k)
+  failing : (k a : ℕ) (bs x : List ℕ) (xs : List (List ℕ)) → answer_of (at_end (feed_all (reader_at r k a) bs)) ≡ Err (R.Field k)
       → rest_passes r.most r.below Fresh r.more (pieces 44 x) ≡ false → ltb k r.limit ≡ true → FileTold r k a bs (x ∷ xs)
   unfolding upshot
   failing k a bs x xs e h g = refused k a bs (x ∷ xs) e (rw (g, h))
@@ -218,7 +215,7 @@ module _ (r : Reader) (separator_fits : r.limit ≤ most64) where
       }
 
   line_fails : (k a : ℕ) (p rest : List ℕ) (s : Reader) → s ≡ feed_byte (feed_all (reader_at r k a) p) 10 → Failed (reader_at r k a) s
-      → answer_of (at_end (feed_all (reader_at r k a) (p ++ (10 ∷ rest)))) ≡ Refused (R.Field k)
+      → answer_of (at_end (feed_all (reader_at r k a) (p ++ (10 ∷ rest)))) ≡ Err (R.Field k)
   line_fails k a p rest s g f =
       let m : feed_byte (feed_all (reader_at r k a) p) 10 ≡ reader_with r Bad k s.left s.at = sym g ∙ f in
       rw (feed_line (reader_at r k a) p rest, m, dead_all r rest k s.left s.at) (dead_answer r k s.left s.at)

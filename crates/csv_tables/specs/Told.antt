@@ -1,27 +1,25 @@
 -- What the answers of the seven readers tell: FIELD, and how many numbers stand in the arrays that they were stored in.
-use Rattle.std.specs.Prelude.{◌≡◌, ℕ, ◌*◌, min, List, get_or}
+use Rattle.meaning.specs.Refusals.{Answer}
+use Rattle.meaning.specs.Refusals.{Verdict}
+use Rattle.std.specs.Prelude.{◌≡◌, ℕ, ◌*◌, min, List, get_or, Ok, Err}
 use Rattle.std.proofs.Common.{sym, ◌∙◌}
 use Rattle.meaning.specs.Tables.{move_row}
-use Rattle.meaning.specs.declared.Verdict.{Verdict}
-use Rattle.meaning.specs.declared.Verdict.TheVariants.{Accepted, Refused}
 use Rattle.csv_columns.specs.Low.{low32}
-use Rattle.csv_records.specs.declared.RecordsAnswer.{RecordsAnswer}
-use Rattle.csv_records.specs.declared.RecordsAnswer.TheVariants as A
 use Rattle.tables.specs.declared.Chart.{Chart}
 use Rattle.csv_tables.specs.declared.Answers.{Answers}
 use Rattle.csv_tables.specs.declared.Counts.{Counts}
 
-abbrev pub rows_of : RecordsAnswer → ℕ
-rows_of (A.Rows n) = n
-rows_of (A.Refused r) = 0
+abbrev pub rows_of : Answer → ℕ
+rows_of (Ok n) = n
+rows_of (Err r) = 0
 
 -- the refusal of a file, or what comes after it
-abbrev pub later : RecordsAnswer → Verdict → Verdict
-later (A.Rows n) v = v
-later (A.Refused r) v = Refused r
+abbrev pub later : Answer → Verdict → Verdict
+later (Ok n) v = v
+later (Err r) v = Err r
 
 abbrev pub field_verdict : Answers → Verdict
-field_verdict a = later a.frame (later a.states (later a.moves (later a.presets (later a.timer_pairs (later a.output_pairs (later a.scans Accepted))))))
+field_verdict a = later a.frame (later a.states (later a.moves (later a.presets (later a.timer_pairs (later a.output_pairs (later a.scans (Ok tt)))))))
 
 -- the frame of the chart
 abbrev pub chart_from : List ℕ → Chart

@@ -3,56 +3,36 @@
 #![tactic(auto)]
 
 ghost use Rattle.std.specs.Prelude.{◌≡◌};
-ghost use Rattle.csv_tables.specs.Told.{rows_of, later, field_verdict, Counted, chart_from};
+ghost use Rattle.csv_tables.specs.Told.{rows_of, field_verdict, Counted, chart_from};
 
-use csv_records::RecordsAnswer;
-use meaning::Verdict;
+use csv_columns::{Column, kept};
+use meaning::Refusal;
 use tables::Chart;
 
 // What the reader of each file answered.
 #[derive(Clone, Copy)]
 pub struct Answers {
-    pub frame: RecordsAnswer,
-    pub states: RecordsAnswer,
-    pub moves: RecordsAnswer,
-    pub presets: RecordsAnswer,
-    pub timer_pairs: RecordsAnswer,
-    pub output_pairs: RecordsAnswer,
-    pub scans: RecordsAnswer,
-}
-
-fn rows(a: RecordsAnswer) -> usize
-    ensures { result ≡ rows_of a }
-{
-    match a {
-        RecordsAnswer::Rows(n) => n,
-        RecordsAnswer::Refused(_) => 0,
-    }
-}
-
-fn then(a: RecordsAnswer, v: Verdict) -> Verdict
-    ensures { result ≡ later a v }
-{
-    match a {
-        RecordsAnswer::Rows(_) => v,
-        RecordsAnswer::Refused(r) => Verdict::Refused(r),
-    }
+    pub frame: Result<usize, Refusal>,
+    pub states: Result<usize, Refusal>,
+    pub moves: Result<usize, Refusal>,
+    pub presets: Result<usize, Refusal>,
+    pub timer_pairs: Result<usize, Refusal>,
+    pub output_pairs: Result<usize, Refusal>,
+    pub scans: Result<usize, Refusal>,
 }
 
 // "FIELD comes before all, file by file in the order of the program section."
-pub fn fields_pass(a: Answers) -> Verdict
+pub fn fields_pass(a: Answers) -> Result<(), Refusal>
     ensures { result ≡ field_verdict a }
 {
-    let frame = a.frame;
-    let states = a.states;
-    let moves = a.moves;
-    let presets = a.presets;
-    let timer_pairs = a.timer_pairs;
-    let output_pairs = a.output_pairs;
-    let scans = a.scans;
-    let v = then(scans, Verdict::Accepted);
-    let w = then(timer_pairs, then(output_pairs, v));
-    then(frame, then(states, then(moves, then(presets, w))))
+    a.frame?;
+    a.states?;
+    a.moves?;
+    a.presets?;
+    a.timer_pairs?;
+    a.output_pairs?;
+    a.scans?;
+    Ok(())
 }
 
 // How many numbers of each table there are, or were kept.
@@ -66,23 +46,24 @@ pub struct Counts {
     pub scans: usize,
 }
 
+// A file that is refused has no rows.
+fn rows(a: Result<usize, Refusal>) -> usize
+    ensures { result ≡ rows_of a }
+{
+    a.unwrap_or(0)
+}
+
 // How many rows each file has.
 pub fn count_rows(a: Answers) -> Counts
     ensures { Counted a result }
 {
-    let states = a.states;
-    let moves = a.moves;
-    let presets = a.presets;
-    let timer_pairs = a.timer_pairs;
-    let output_pairs = a.output_pairs;
-    let scans = a.scans;
     Counts {
-        states: csv_columns::twos(rows(states), 514),
-        moves: csv_columns::elevens(rows(moves), 5643),
-        presets: csv_columns::ones(rows(presets), 33),
-        timer_pairs: csv_columns::twos(rows(timer_pairs), 4098),
-        output_pairs: csv_columns::twos(rows(output_pairs), 4098),
-        scans: csv_columns::ones(rows(scans), 4096),
+        states: kept::<2>(rows(a.states), 514),
+        moves: kept::<{ Chart::MOVE_ROW }>(rows(a.moves), 5643),
+        presets: kept::<1>(rows(a.presets), 33),
+        timer_pairs: kept::<2>(rows(a.timer_pairs), 4098),
+        output_pairs: kept::<2>(rows(a.output_pairs), 4098),
+        scans: kept::<1>(rows(a.scans), 4096),
     }
 }
 
@@ -90,12 +71,9 @@ pub fn count_rows(a: Answers) -> Counts
 pub fn chart_of(frame: &[u64; 3]) -> Chart
     ensures { result ≡ chart_from frame.now }
 {
-    let step = csv_columns::low_32(frame[0]);
-    let inputs = csv_columns::low_32(frame[1]);
-    let outputs = csv_columns::low_32(frame[2]);
     Chart {
-        step,
-        inputs,
-        outputs,
+        step: u32::narrow(frame[0]),
+        inputs: u32::narrow(frame[1]),
+        outputs: u32::narrow(frame[2]),
     }
 }

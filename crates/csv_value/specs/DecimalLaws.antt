@@ -1,11 +1,10 @@
 -- Laws of Decimals.antt, case by case.
-use Rattle.std.specs.Prelude.{◌≡◌, refl, ℕ, zero, suc, true, pos, negsuc, ◌-ℤ◌}
+use Rattle.std.specs.Prelude.{◌≡◌, refl, ℕ, zero, suc, true, pos, negsuc, ◌-ℤ◌, None}
 use Rattle.std.proofs.Common.{ap, arith}
 use Rattle.std.proofs.lemmas.Bool.{false≢true}
 use Rattle.csv_field.specs.declared.FieldPhase.{FieldPhase}
 use Rattle.csv_field.specs.declared.FieldPhase.TheVariants.{Fresh, Empty, Quote, Minus, Number, Closed, Return, Bad}
 use Rattle.csv_field.specs.Field.{field_begun, phase_after}
-use Rattle.csv_value.specs.declared.Decimal.TheVariants.{IsNot}
 use Rattle.csv_value.specs.Decimals.{decimal_of, returned, untouched, begins}
 
 -- where a field begins, its first byte says what it is
@@ -22,7 +21,7 @@ begin_after most below Bad b e = absurd (false≢true e)
 
 -- ---- nothing to store
 
-pub return_none : (p : FieldPhase) → returned p ≡ true → decimal_of p ≡ IsNot
+pub return_none : (p : FieldPhase) → returned p ≡ true → decimal_of p ≡ None
 unfolding decimal_of
 return_none Fresh e = refl
 return_none Empty e = refl
@@ -33,7 +32,7 @@ return_none (Closed s n) e = absurd (false≢true e)
 return_none Return e = refl
 return_none Bad e = refl
 
-pub fresh_none : (p : FieldPhase) → untouched p ≡ true → decimal_of p ≡ IsNot
+pub fresh_none : (p : FieldPhase) → untouched p ≡ true → decimal_of p ≡ None
 unfolding decimal_of
 fresh_none Fresh e = refl
 fresh_none Empty e = refl

@@ -1,25 +1,23 @@
 -- What a field is when it ends, and where in a record its reader stands.
-use Rattle.std.specs.Prelude.{ℕ, ◌-◌, Bool, true, false, cond, ltb, ℤ, pos, negsuc}
+use Rattle.std.specs.Prelude.{ℕ, ◌-◌, Bool, true, false, cond, ltb, ℤ, pos, negsuc, Some, None, Option}
 use Rattle.csv_field.specs.declared.FieldPhase.{FieldPhase}
 use Rattle.csv_field.specs.declared.FieldPhase.TheVariants.{Fresh, Empty, Quote, Minus, Number, Closed, Return, Bad}
 use Rattle.csv_field.specs.Field.{most64}
-use Rattle.csv_value.specs.declared.Decimal.{Decimal}
-use Rattle.csv_value.specs.declared.Decimal.TheVariants.{Is, IsNot}
 
 -- a negative number is stored as its 64-bit two's complement
 abbrev pub encoded : Bool → ℕ → ℕ
 encoded negative n = cond negative (most64 - (n - 1)) n
 
 -- what the field is, if it ends here
-unfoldable pub decimal_of : FieldPhase → Decimal
-decimal_of Fresh = IsNot
-decimal_of Empty = IsNot
-decimal_of Quote = IsNot
-decimal_of (Minus quoted) = IsNot
-decimal_of (Number quoted negative n) = cond quoted IsNot (Is (encoded negative n))
-decimal_of (Closed negative n) = Is (encoded negative n)
-decimal_of Return = IsNot
-decimal_of Bad = IsNot
+unfoldable pub decimal_of : FieldPhase → (Option ℕ)
+decimal_of Fresh = None
+decimal_of Empty = None
+decimal_of Quote = None
+decimal_of (Minus quoted) = None
+decimal_of (Number quoted negative n) = cond quoted None (Some (encoded negative n))
+decimal_of (Closed negative n) = Some (encoded negative n)
+decimal_of Return = None
+decimal_of Bad = None
 
 abbrev pub returned : FieldPhase → Bool
 returned Fresh = false

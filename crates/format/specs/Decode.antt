@@ -1,5 +1,5 @@
 -- From a 32-bit word back to the instruction: only operators with operands that some accepted list has.
-use Rattle.std.specs.Prelude.{ℕ, ◌-◌, ◌/◌, ◌%◌, Bool, true, false, ◌||◌, cond, leb, eqb}
+use Rattle.std.specs.Prelude.{ℕ, ◌-◌, ◌/◌, ◌%◌, Bool, true, false, ◌||◌, cond, leb, eqb, Option, Some, None}
 use Rattle.meaning.specs.Tables.{most_timers, most_preset}
 use Rattle.meaning.specs.Literals.{between}
 use Rattle.meaning.specs.Programs.{testable, constant, flip_flop_fits, output_fits}
@@ -7,8 +7,10 @@ use Rattle.meaning.specs.declared.Operand.{Operand}
 use Rattle.meaning.specs.declared.Operand.TheVariants.{Mx, Ix, Qx, TimerQ, TimerIn, TimerPt, Timer, False, True}
 use Rattle.meaning.specs.declared.Operator.{Operator}
 use Rattle.meaning.specs.declared.Operator.TheVariants.{Ld, Ldn, And, Andn, Or, Close, St, S, R, Cal, LdTime}
-use Rattle.format.specs.declared.Decoded.{Decoded}
-use Rattle.format.specs.declared.Decoded.TheVariants.{Known, Unknown}
+
+-- what a word stands for: an instruction, or none
+abbrev pub Decoded : Type 0
+Decoded = Option Operator
 
 -- by what a block's operand is: Tn.IN, Tn.PT, Tn, or any other
 abbrev pub block_case : {A : Type 0} → (ℕ → A) → (ℕ → A) → (ℕ → A) → A → Operand → A
@@ -57,7 +59,7 @@ operand_of n = cond (leb n 384) (Mx n)
     (cond (eqb n 2001) True (Timer 0)))))))))
 
 unfoldable pub kept : Operator → Decoded
-kept i = cond (operator_fits i) (Known i) Unknown
+kept i = cond (operator_fits i) (Some i) None
 
 -- operator k with operand m
 unfoldable pub unpacked : ℕ → ℕ → Decoded
@@ -65,13 +67,13 @@ unpacked k m = cond (eqb k 1) (kept (Ld (operand_of m)))
     (cond (eqb k 2) (kept (Ldn (operand_of m)))
     (cond (eqb k 3) (kept (And (operand_of m)))
     (cond (eqb k 4) (kept (Andn (operand_of m)))
-    (cond (eqb k 5) (cond (eqb m 0) (Known Or) Unknown)
-    (cond (eqb k 6) (cond (eqb m 0) (Known Close) Unknown)
+    (cond (eqb k 5) (cond (eqb m 0) (Some Or) None)
+    (cond (eqb k 6) (cond (eqb m 0) (Some Close) None)
     (cond (eqb k 7) (kept (St (operand_of m)))
     (cond (eqb k 8) (kept (S (operand_of m)))
     (cond (eqb k 9) (kept (R (operand_of m)))
     (cond (eqb k 10) (kept (Cal (operand_of m)))
-    (cond (eqb k 11) (kept (LdTime m)) Unknown))))))))))
+    (cond (eqb k 11) (kept (LdTime m)) None))))))))))
 
 unfoldable pub decoded : ℕ → Decoded
 decoded n = unpacked (n / 134217728) (n % 134217728)

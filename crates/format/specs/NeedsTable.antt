@@ -1,6 +1,7 @@
 -- What the program prints with --needs: a table of the moves with what each needs on and off; for an OVERLAP the pair
 -- and a setting that enables both; and the verdict. Where LITERAL or a check before it refuses, the refusal alone.
-use Rattle.std.specs.Prelude.{ℕ, suc, Bool, cond, eqb}
+use Rattle.meaning.specs.Refusals.{Verdict}
+use Rattle.std.specs.Prelude.{ℕ, suc, Bool, cond, eqb, Ok, Err}
 use mathlib.Core.List.{List, [], ◌∷◌, ◌++◌, flat_map}
 use Rattle.meaning.specs.Rows.{table}
 use Rattle.meaning.specs.Tables.{Tables, most_inputs, most_timers, move_count, source, target}
@@ -10,8 +11,6 @@ use Rattle.meaning.specs.Needs.{Things, needs_on, needs_off, both_on, both_off, 
 use Rattle.meaning.specs.Check.{checks, verdict_of, earlier}
 use Rattle.meaning.specs.Refusals.{number_of, place_of}
 use Rattle.meaning.specs.declared.Refusal.{Refusal}
-use Rattle.meaning.specs.declared.Verdict.{Verdict}
-use Rattle.meaning.specs.declared.Verdict.TheVariants.{Accepted, Refused}
 use Rattle.meaning.specs.declared.Operand.TheVariants.{Ix, TimerQ}
 use Rattle.format.specs.Text.{bytes, decimal, operand_text, line}
 use Rattle.format.specs.Printed.{Files, field_checks, tables, comma, refusal_line}
@@ -59,8 +58,8 @@ needs_known r = between 9 11 (number_of r)
 
 -- the last line is the verdict: REFUSED,number,place as without --needs, or ACCEPTED
 unfoldable pub needs_page : Tables → Verdict → List ℕ
-needs_page c Accepted = needs_table c ++ line (bytes "ACCEPTED")
-needs_page c (Refused r) = cond (needs_known r) (needs_table c) []
+needs_page c (Ok tt) = needs_table c ++ line (bytes "ACCEPTED")
+needs_page c (Err r) = cond (needs_known r) (needs_table c) []
     ++ (cond (eqb (number_of r) 10) (overlap_line c (place_of r)) [] ++ refusal_line r)
 
 -- FIELD, then the tables' refusals, as without --needs; no text is written, so ROOM is not looked for

@@ -1,5 +1,7 @@
 -- What the program prints, as a function of the bytes of its seven files.
-use Rattle.std.specs.Prelude.{ℕ, suc, max, true, false, ◌&&◌, List, [], ◌∷◌, ◌++◌, map, length, get_or, leb, ltb, eqb}
+use Rattle.meaning.specs.Refusals.{Verdict}
+use Rattle.std.specs.Prelude.{ℕ, suc, max, true, false, ◌&&◌, List, [], ◌∷◌}
+use Rattle.std.specs.Prelude.{◌++◌, map, length, get_or, leb, ltb, eqb, Ok, Err}
 use Rattle.std.specs.Prelude.{nat_abs}
 use Rattle.meaning.specs.Refusals.{number_of, place_of}
 use Rattle.meaning.specs.Tables.{Tables, state_row, move_row, pair_row}
@@ -8,8 +10,6 @@ use Rattle.meaning.specs.Machine.{Seen, start_state, trace}
 use Rattle.meaning.specs.Written.{program}
 use Rattle.meaning.specs.declared.Refusal.{Refusal}
 use Rattle.meaning.specs.declared.Refusal.TheVariants as R
-use Rattle.meaning.specs.declared.Verdict.{Verdict}
-use Rattle.meaning.specs.declared.Verdict.TheVariants.{Accepted, Refused}
 use Rattle.format.specs.Text.{bytes, decimal, line, text}
 use Rattle.format.specs.Places.{room}
 use Rattle.format.specs.Records.{Column, records, record_passes, numbers}
@@ -127,9 +127,9 @@ unfoldable pub refusal_line : Refusal → List ℕ
 refusal_line r = line (comma (bytes "REFUSED") (comma (decimal (number_of r)) (decimal (place_of r))))
 
 unfoldable pub printed_as : Files → Verdict → List ℕ
-printed_as f Accepted =
+printed_as f (Ok tt) =
     chart_text (tables f) ++ scan_lines 1 (trace (tables f) (start_state (tables f)) (naturals f.scans))
-printed_as f (Refused r) = refusal_line r
+printed_as f (Err r) = refusal_line r
 
 unfoldable pub printed : Files → List ℕ
 printed f = printed_as f (printed_verdict f)

@@ -2,20 +2,6 @@
 // of.
 #![tactic(auto)]
 
-// What a writer of text answers: how many bytes it wrote, from the front, or why it wrote none.
-#[derive(Clone, Copy)]
-pub enum Written {
-    Wrote(usize),
-    Refused(meaning::Refusal),
-}
-
-// What a word stands for.
-#[derive(Clone, Copy)]
-pub enum Decoded {
-    Known(meaning::Operator),
-    Unknown,
-}
-
 // Where in a rung the reader is: between two rungs; in a body, after OR( or inside a bracket; after a store; after a
 // timer rung's ST Tn.IN, its time or its ST Tn.PT; or after what no list has.
 #[derive(Clone, Copy)]

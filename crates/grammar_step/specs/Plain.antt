@@ -1,6 +1,7 @@
 -- Words that name no block: what they do follows from the operator number alone.
-use Rattle.std.specs.Prelude.{◌≡◌, refl, ℕ, ◌-◌, ◌/◌, ◌%◌, ◌≤◌, true}
+use Rattle.std.specs.Prelude.{◌≡◌, refl, ℕ, ◌-◌, ◌/◌, ◌%◌, ◌≤◌, ◌<◌, true}
 use Rattle.std.proofs.Common.{sym, ap, ◌∙◌, arith, le-leb}
+use Rattle.std.proofs.Math.Decide.{dec_le}
 use Rattle.meaning.proofs.Laws.Rows.{or_l}
 use Rattle.meaning.specs.Programs.{testable, constant, flip_flop_fits, output_fits}
 use Rattle.meaning.specs.declared.Operand.{Operand}
@@ -65,3 +66,37 @@ mx_stored s m h = record {
   set = ap (λ x. step_word s (kept (S x))) (operand_mx m (omega arith)) ∙ known_step s (S (Mx m)) (le-leb m 255 h);
   reset = ap (λ x. step_word s (kept (R x))) (operand_mx m (omega arith)) ∙ known_step s (R (Mx m)) (le-leb m 255 h);
 }
+
+-- ---- by the ranges that the two numbers are in
+
+-- a test on %MX (0 to 255) or %IX (385 to 448)
+plain_tests : (s : Reading) (m : ℕ) → m ≤ 448 → (255 < m → 384 < m) → TestSteps s m
+plain_tests s m a b = elim (dec_le m 255) [ yes h ↦ mx_tests s m h | no h ↦ ix_tests s m (b (omega arith)) a ]
+
+module _ (s : Reading) (w : ℕ) where
+  -- LD (1) and LDN (2)
+  pub loads : 1 ≤ w / 134217728 → w / 134217728 ≤ 2 → w % 134217728 ≤ 448 → (255 < w % 134217728 → 384 < w % 134217728) → load 0 s ≡ step_word s (decoded w)
+  loads a b c d =
+      let t = plain_tests s (w % 134217728) c d in elim (dec_le (w / 134217728) 1) [
+        | yes h ↦ by_number s w 1 (load 0 s) (omega arith) t.ld
+        | no h ↦ by_number s w 2 (load 0 s) (omega arith) t.ldn
+      ]
+
+  -- AND (3) and ANDN (4)
+  pub adds : 3 ≤ w / 134217728 → w / 134217728 ≤ 4 → w % 134217728 ≤ 448 → (255 < w % 134217728 → 384 < w % 134217728) → also 0 s ≡ step_word s (decoded w)
+  adds a b c d =
+      let t = plain_tests s (w % 134217728) c d in elim (dec_le (w / 134217728) 3) [
+        | yes h ↦ by_number s w 3 (also 0 s) (omega arith) t.and
+        | no h ↦ by_number s w 4 (also 0 s) (omega arith) t.andn
+      ]
+
+  -- ST (7), S (8) and R (9), on %MX
+  pub stores : 7 ≤ w / 134217728 → w / 134217728 ≤ 9 → w % 134217728 ≤ 255 → store s ≡ step_word s (decoded w)
+  stores a b c =
+      let t = mx_stored s (w % 134217728) c in elim (dec_le (w / 134217728) 7) [
+        | yes h ↦ by_number s w 7 (store s) (omega arith) t.st
+        | no h ↦ elim (dec_le (w / 134217728) 8) [
+          | yes g ↦ by_number s w 8 (store s) (omega arith) t.set
+          | no g ↦ by_number s w 9 (store s) (omega arith) t.reset
+        ]
+      ]

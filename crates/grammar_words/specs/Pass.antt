@@ -1,5 +1,5 @@
 -- What the pass over a list of words answers, and the laws of its loop.
-use Rattle.std.specs.Prelude.{◌≡◌, refl, ℕ, suc, ◌+◌, ◌≤◌, ◌<◌, true, false, List, length, get_or, take}
+use Rattle.std.specs.Prelude.{◌≡◌, refl, ℕ, suc, ◌+◌, ◌≤◌, ◌<◌, true, false, List, length, get_or, take, Ok, Err, Result}
 use Rattle.std.proofs.Common.{sym, ap, ◌∙◌, add-one, arith}
 use Rattle.std.proofs.Math.Seq.{take-length}
 use Rattle.meaning.specs.Programs.{Program, program_fits}
@@ -9,8 +9,6 @@ use Rattle.format.specs.Places.{WordPlace}
 use Rattle.format.specs.Decode.{decoded}
 use Rattle.format.specs.Automata.Phases.{begin, begin_words, alive, may_end, step_word, after_words}
 use Rattle.format.proofs.Laws.Words.{accepted_words, words_step, refused_word, unfinished_words, words_same, place_same, program_timers}
-use Rattle.grammar_words.specs.declared.WordsEnd.{WordsEnd}
-use Rattle.grammar_words.specs.declared.WordsEnd.TheVariants.{Accepted, Refused}
 
 -- the words are those of a program with d blocks
 pub record Holds (l : List ℕ) (d : ℕ) : Type 0 where
@@ -20,16 +18,16 @@ pub record Holds (l : List ℕ) (d : ℕ) : Type 0 where
   pub blocks : length program.timers ≡ d
 
 -- the blocks of the program that the words are, or the place of TEXT
-abbrev pub WordsPassed : List ℕ → WordsEnd → Type 0
-WordsPassed l (Accepted d) = Holds l d
-WordsPassed l (Refused k) = WordPlace l k
+abbrev pub WordsPassed : List ℕ → (Result ℕ ℕ) → Type 0
+WordsPassed l (Ok d) = Holds l d
+WordsPassed l (Err k) = WordPlace l k
 
 -- there is no second answer
-pub passed_same : (l : List ℕ) (r q : WordsEnd) → WordsPassed l r → WordsPassed l q → r ≡ q
-passed_same l (Accepted d) (Accepted e) h k = ap Accepted (sym h.blocks ∙ ap (λ p. length p.timers) (words_same h.program k.program h.fitting k.fitting (h.listing ∙ sym k.listing)) ∙ k.blocks)
-passed_same l (Accepted d) (Refused j) h k = absurd (k.refused (h.program, h.fitting, h.listing))
-passed_same l (Refused i) (Accepted e) h k = absurd (h.refused (k.program, k.fitting, k.listing))
-passed_same l (Refused i) (Refused j) h k = ap Refused (place_same AcceptedWords _ l i j h k)
+pub passed_same : (l : List ℕ) (r q : (Result ℕ ℕ)) → WordsPassed l r → WordsPassed l q → r ≡ q
+passed_same l (Ok d) (Ok e) h k = ap Ok (sym h.blocks ∙ ap (λ p. length p.timers) (words_same h.program k.program h.fitting k.fitting (h.listing ∙ sym k.listing)) ∙ k.blocks)
+passed_same l (Ok d) (Err j) h k = absurd (k.refused (h.program, h.fitting, h.listing))
+passed_same l (Err i) (Ok e) h k = absurd (h.refused (k.program, k.fitting, k.listing))
+passed_same l (Err i) (Err j) h k = ap Err (place_same AcceptedWords _ l i j h k)
 
 -- ---- the loop
 

@@ -1,11 +1,10 @@
 -- The block that a decoded word calls.
-use Rattle.std.specs.Prelude.{ℕ, ◌-◌, min}
+use Rattle.format.specs.Decode.{Decoded}
+use Rattle.std.specs.Prelude.{ℕ, ◌-◌, min, Some, None}
 use Rattle.meaning.specs.declared.Operand.{Operand}
 use Rattle.meaning.specs.declared.Operand.TheVariants.{Mx, Ix, Qx, TimerQ, TimerIn, TimerPt, Timer, False, True}
 use Rattle.meaning.specs.declared.Operator.{Operator}
 use Rattle.meaning.specs.declared.Operator.TheVariants.{Ld, Ldn, And, Andn, Or, Close, St, S, R, Cal, LdTime}
-use Rattle.format.specs.declared.Decoded.{Decoded}
-use Rattle.format.specs.declared.Decoded.TheVariants.{Known, Unknown}
 
 unfoldable pub block_of : ℕ → Operand → ℕ
 block_of c (Mx n) = c
@@ -33,5 +32,5 @@ called_by c (LdTime n) = c
 
 -- the block, from 0, that a CAL calls out of c blocks; c where it is no CAL, or one of no such block
 unfoldable pub due : ℕ → Decoded → ℕ
-due c (Known i) = called_by c i
-due c Unknown = c
+due c (Some i) = called_by c i
+due c None = c

@@ -1,13 +1,12 @@
 -- What the checks of a lent controller, a step and the number of results come to, in their order, and that they have one answer.
-use Rattle.std.specs.Prelude.{◌≡◌, ◌↔◌, ℕ, ◌≤◌, ◌<◌, Bool, true, false, cond, List, length, eqb}
+use Rattle.meaning.specs.Refusals.{Verdict}
+use Rattle.std.specs.Prelude.{◌≡◌, ◌↔◌, ℕ, ◌≤◌, ◌<◌, Bool, true, false, cond, List, length, eqb, Ok, Err}
 use Rattle.std.proofs.Common.{sym, ap, ◌∙◌, arith, le-leb}
 use Rattle.std.proofs.lemmas.Bool.{lt-leb}
 use Rattle.meaning.proofs.Laws.Rows.{not_both, same_test}
 use Rattle.meaning.specs.Tables.{most_scan_step}
 use Rattle.meaning.specs.Literals.{between}
 use Rattle.meaning.specs.Programs.{Program}
-use Rattle.meaning.specs.declared.Verdict.{Verdict}
-use Rattle.meaning.specs.declared.Verdict.TheVariants as G
 use Rattle.meaning.specs.declared.Refusal.TheVariants.{Size, Text, State, Scans}
 use Rattle.format.specs.Words.{AcceptedWords}
 use Rattle.format.specs.Places.{WordPlace}
@@ -33,17 +32,17 @@ pub step_in : (d : ℕ) → 1 ≤ d → d ≤ 1000 → between 1 most_scan_step 
 step_in d h g = rw (le-leb 1 d h, le-leb d 1000 g)
 
 abbrev pub rest_of : Bool → Bool → Verdict
-rest_of ok fit = cond ok (cond fit G.Accepted (G.Refused Scans)) (G.Refused State)
+rest_of ok fit = cond ok (cond fit (Ok tt) (Err Scans)) (Err State)
 
 -- with n blocks, of which `timely` says whether they are in time, i input words and m results
 pub data JudgedBy (d : ℕ) (ws fs : List ℕ) (n : ℕ) (timely : Bool) (i m : ℕ) (v : Verdict) : Type 0 where
-  step : between 1 most_scan_step d ≡ false → v ≡ G.Refused Size → JudgedBy d ws fs n timely i m v
-  text : between 1 most_scan_step d ≡ true → (k : ℕ) → WordPlace ws k → v ≡ G.Refused (Text k) → JudgedBy d ws fs n timely i m v
+  step : between 1 most_scan_step d ≡ false → v ≡ Err Size → JudgedBy d ws fs n timely i m v
+  text : between 1 most_scan_step d ≡ true → (k : ℕ) → WordPlace ws k → v ≡ Err (Text k) → JudgedBy d ws fs n timely i m v
   rest : between 1 most_scan_step d ≡ true → (p : Program) → Fitting p ws → (ok : Bool) → (ok ≡ true) ↔ StatePasses ws fs n (length p.timers) timely → v ≡ rest_of ok (eqb m i) → JudgedBy d ws fs n timely i m v
 
 abbrev pub is_accepted : Verdict → Bool
-is_accepted G.Accepted = true
-is_accepted (G.Refused q) = false
+is_accepted (Ok tt) = true
+is_accepted (Err q) = false
 
 -- ---- no second answer
 
@@ -53,7 +52,7 @@ module _ {d : ℕ} {ws fs : List ℕ} {n : ℕ} {timely : Bool} {i m : ℕ} wher
   judged_same (JudgedBy.step a e) (JudgedBy.text b k h f) = absurd (not_both a b)
   judged_same (JudgedBy.step a e) (JudgedBy.rest b p h ok t f) = absurd (not_both a b)
   judged_same (JudgedBy.text a k h e) (JudgedBy.step b f) = absurd (not_both b a)
-  judged_same (JudgedBy.text a k h e) (JudgedBy.text b j g f) = e ∙ ap (λ (o : ℕ). G.Refused (Text o)) (place_same AcceptedWords _ ws k j h g) ∙ sym f
+  judged_same (JudgedBy.text a k h e) (JudgedBy.text b j g f) = e ∙ ap (λ (o : ℕ). Err (Text o)) (place_same AcceptedWords _ ws k j h g) ∙ sym f
   judged_same (JudgedBy.text a k h e) (JudgedBy.rest b p g ok t f) = absurd (h.refused (p, g.program, g.list))
   judged_same (JudgedBy.rest a p g ok t e) (JudgedBy.step b f) = absurd (not_both b a)
   judged_same (JudgedBy.rest a p g ok t e) (JudgedBy.text b k h f) = absurd (h.refused (p, g.program, g.list))

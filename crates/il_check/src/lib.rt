@@ -1,11 +1,10 @@
 // The checks before a program is run, in their order.
 #![tactic(auto)]
 
-ghost use Rattle.std.specs.Prelude.{◌≡◌, Bool, ◌↔◌, eqb};
-ghost use Rattle.il_check.specs.Judged.{StatePasses, JudgedBy, rest_of, is_accepted};
+ghost use Rattle.std.specs.Prelude.{◌≡◌, Bool, ◌↔◌};
+ghost use Rattle.il_check.specs.Judged.{StatePasses, JudgedBy};
 
-use grammar_words::WordsEnd;
-use meaning::{Refusal, Verdict};
+use meaning::Refusal;
 use tables::Chart;
 
 // 14 STATE, for a lent controller with so many blocks, which are in time or not, of a program that declares `blocks`.
@@ -13,29 +12,10 @@ fn state_passes(words: &[u32], flip_flops: &[u8], count: usize, blocks: usize, t
     ensures { (result ≡ Bool.true) ↔ StatePasses words.now flip_flops.now count blocks
         timely }
 {
-    let bytes = il_sizes::flip_flop_bytes(words);
-    if flip_flops.len() != bytes {
-        return false;
-    }
-    if count != blocks {
-        return false;
-    }
-    if timely {
-        return il_times::are_bits(flip_flops);
-    }
-    false
-}
-
-fn then_scans(ok: bool, scans: usize, results: usize) -> Verdict
-    ensures { result ≡ rest_of ok (eqb results scans) }
-{
-    if ok {
-        if results == scans {
-            return Verdict::Accepted;
-        }
-        return Verdict::Refused(Refusal::Scans);
-    }
-    Verdict::Refused(Refusal::State)
+    flip_flops.len() == il_sizes::flip_flop_bytes(words)
+        && count == blocks
+        && timely
+        && il_times::are_bits(flip_flops)
 }
 
 // "Checks 1 to 11 come first wherever tables or a scan step are given, then 13 where text or words are given, then
@@ -48,31 +28,21 @@ pub fn judge(
     timely: bool,
     scans: usize,
     results: usize,
-) -> Verdict
+) -> Result<(), Refusal>
     ensures { JudgedBy step words.now flip_flops.now count timely scans results result }
 {
-    if step < 1 {
-        return Verdict::Refused(Refusal::Size);
+    if step < 1 || Chart::STEP < step {
+        return Err(Refusal::Size);
     }
-    if Chart::STEP < step {
-        return Verdict::Refused(Refusal::Size);
+    let blocks = match grammar_words::words_pass(words) {
+        Ok(d) => d as usize,
+        Err(k) => return Err(Refusal::Text(k)),
+    };
+    if !state_passes(words, flip_flops, count, blocks, timely) {
+        return Err(Refusal::State);
     }
-    let passed = grammar_words::words_pass(words);
-    match passed {
-        WordsEnd::Accepted(d) => {
-            let ok = state_passes(words, flip_flops, count, d as usize, timely);
-            then_scans(ok, scans, results)
-        }
-        WordsEnd::Refused(k) => Verdict::Refused(Refusal::Text(k)),
+    if results != scans {
+        return Err(Refusal::Scans);
     }
-}
-
-// Whether a verdict accepts.
-pub fn accepted(v: Verdict) -> bool
-    ensures { result ≡ is_accepted v }
-{
-    match v {
-        Verdict::Accepted => true,
-        Verdict::Refused(_) => false,
-    }
+    Ok(())
 }

@@ -1,11 +1,10 @@
 -- What the functions compute of one instruction: with one value deferred, IN and PT held until CAL, and Q and outputs as words.
-use Rattle.std.specs.Prelude.{ℕ, ◌-◌, Bool, ◌&&◌, ◌||◌, not, List}
+use Rattle.format.specs.Decode.{Decoded}
+use Rattle.std.specs.Prelude.{ℕ, ◌-◌, Bool, ◌&&◌, ◌||◌, not, List, Some, None}
 use Rattle.meaning.specs.declared.Operand.{Operand}
 use Rattle.meaning.specs.declared.Operand.TheVariants.{Mx, Ix, Qx, TimerQ, TimerIn, TimerPt, Timer, False, True}
 use Rattle.meaning.specs.declared.Operator.{Operator}
 use Rattle.meaning.specs.declared.Operator.TheVariants.{Ld, Ldn, And, Andn, Or, Close, St, S, R, Cal, LdTime}
-use Rattle.format.specs.declared.Decoded.{Decoded}
-use Rattle.format.specs.declared.Decoded.TheVariants.{Known, Unknown}
 use Rattle.il_values.specs.Value.{with_bit, value_in}
 use Rattle.il_stores.specs.Acted.{acted}
 use Rattle.il_instruction.specs.declared.Registers.{Registers}
@@ -63,9 +62,9 @@ evaluated x fs (Cal o) s = s
 evaluated x fs (LdTime n) s = time_loaded n s
 
 unfoldable pub running : ℕ → List ℕ → Decoded → Registers → Registers
-running x fs (Known i) s = evaluated x fs i s
-running x fs Unknown s = s
+running x fs (Some i) s = evaluated x fs i s
+running x fs None s = s
 
 unfoldable pub flip_flops_after : Decoded → Bool → List ℕ → List ℕ
-flip_flops_after (Known i) v fs = acted i v fs
-flip_flops_after Unknown v fs = fs
+flip_flops_after (Some i) v fs = acted i v fs
+flip_flops_after None v fs = fs

@@ -8,7 +8,6 @@ ghost use Rattle.il_instruction.specs.Effect.{loaded, opened_bracket, closed_bra
 ghost use Rattle.il_instruction.specs.Effect.{with_time_as_pt, with_output_word, stored_to, evaluated, running};
 ghost use Rattle.il_instruction.specs.Effect.{flip_flops_after};
 
-use format::Decoded;
 use meaning::{Operand, Operator};
 
 // What a scan keeps by value: the result, what a bracket has deferred, the time loaded last, the IN and PT stored
@@ -25,130 +24,111 @@ pub struct Registers {
 }
 
 impl Registers {
-    fn load(mut self, v: bool) -> Registers
+    fn load(self, v: bool) -> Registers
         ensures { result ≡ loaded v self }
     {
-        self.result = v;
-        self
+        Registers { result: v, ..self }
     }
 
     fn and(self, v: bool) -> Registers
         ensures { result ≡ loaded (self.result && v) self }
     {
-        let input = self.result;
-        if input {
-            return self.load(v);
-        }
-        self.load(false)
+        self.load(self.result && v)
     }
 
     // OR( defers the result ..
-    fn put_aside(mut self) -> Registers
+    fn put_aside(self) -> Registers
         ensures { result ≡ opened_bracket self }
     {
-        self.deferred = self.result;
-        self
+        Registers {
+            deferred: self.result,
+            ..self
+        }
     }
 
     // .. and ) ors it with what the bracket gave.
     fn or_aside(self) -> Registers
         ensures { result ≡ closed_bracket self }
     {
-        let deferred = self.deferred;
-        if deferred {
-            return self.load(true);
-        }
-        self
+        self.load(self.deferred || self.result)
     }
 
-    fn load_time(mut self, n: u32) -> Registers
+    fn load_time(self, n: u32) -> Registers
         ensures { result ≡ time_loaded n self }
     {
-        self.time = n;
-        self
+        Registers { time: n, ..self }
     }
 
-    fn store_in(mut self) -> Registers
+    fn store_in(self) -> Registers
         ensures { result ≡ with_on self.result self }
     {
-        self.input = self.result;
-        self
+        Registers {
+            input: self.result,
+            ..self
+        }
     }
 
-    fn store_pt(mut self) -> Registers
+    fn store_pt(self) -> Registers
         ensures { result ≡ with_time_as_pt self }
     {
-        self.pt = self.time;
-        self
+        Registers {
+            pt: self.time,
+            ..self
+        }
     }
 
-    fn store_output(mut self, n: u16) -> Registers
+    fn store_output(self, n: u16) -> Registers
         ensures { result ≡ with_output_word (with_bit self.outputs (n - 1) self.result) self }
     {
-        let outputs = self.outputs;
-        let v = self.result;
-        self.outputs = il_values::with_bit(outputs, il_values::from_zero(n), v);
-        self
+        let k = il_values::from_zero(n);
+        Registers {
+            outputs: il_values::with_bit(self.outputs, k, self.result),
+            ..self
+        }
     }
 
     // ST of the result, apart from the flip-flops.
+    #[tactic(auto, unfolding(crate::specs::Effect::stored_to))]
     fn store(self, o: Operand) -> Registers
         ensures { result ≡ stored_to o self }
     {
         match o {
-            Operand::Mx(_) => self,
-            Operand::Ix(_) => self,
             Operand::Qx(n) => self.store_output(n),
-            Operand::TimerQ(_) => self,
             Operand::TimerIn(_) => self.store_in(),
             Operand::TimerPt(_) => self.store_pt(),
-            Operand::Timer(_) => self,
-            Operand::False => self,
-            Operand::True => self,
+            _ => self,
         }
     }
 }
 
 // An instruction's effect, apart from the flip-flops and the blocks.
+#[tactic(auto, unfolding(crate::specs::Effect::evaluated))]
 fn evaluate(flip_flops: &[u8], x: u64, i: Operator, s: Registers) -> Registers
     ensures { result ≡ evaluated x flip_flops.now i s }
 {
-    let qs = s.qs;
     match i {
-        Operator::Ld(o) => s.load(il_values::value(flip_flops, x, qs, o)),
-        Operator::Ldn(o) => s.load(!il_values::value(flip_flops, x, qs, o)),
-        Operator::And(o) => s.and(il_values::value(flip_flops, x, qs, o)),
-        Operator::Andn(o) => s.and(!il_values::value(flip_flops, x, qs, o)),
+        Operator::Ld(o) => s.load(il_values::value(flip_flops, x, s.qs, o)),
+        Operator::Ldn(o) => s.load(!il_values::value(flip_flops, x, s.qs, o)),
+        Operator::And(o) => s.and(il_values::value(flip_flops, x, s.qs, o)),
+        Operator::Andn(o) => s.and(!il_values::value(flip_flops, x, s.qs, o)),
         Operator::Or => s.put_aside(),
         Operator::Close => s.or_aside(),
         Operator::St(o) => s.store(o),
-        Operator::S(_) => s,
-        Operator::R(_) => s,
-        Operator::Cal(_) => s,
         Operator::LdTime(n) => s.load_time(n),
+        _ => s,
     }
 }
 
-// What a word is decoded to; one that is no instruction does nothing.
-fn run_one(flip_flops: &mut [u8], x: u64, d: Decoded, s: Registers) -> Registers
-    ensures { (result ≡ running x flip_flops.old d s)
-        × (flip_flops.new ≡ flip_flops_after d s.result flip_flops.old) }
-{
-    match d {
-        Decoded::Known(i) => {
-            let v = s.result;
-            let t = evaluate(flip_flops, x, i, s);
-            il_stores::change(flip_flops, i, v);
-            t
-        }
-        Decoded::Unknown => s,
-    }
-}
-
-// One word.
+// One word; one that is no instruction does nothing.
+#[tactic(auto, unfolding(crate::specs::Effect::running, crate::specs::Effect::flip_flops_after))]
 pub fn run_word(flip_flops: &mut [u8], x: u64, w: u32, s: Registers) -> Registers
     ensures { (result ≡ running x flip_flops.old (decoded w) s)
         × (flip_flops.new ≡ flip_flops_after (decoded w) s.result flip_flops.old) }
 {
-    run_one(flip_flops, x, word_decode::decode(w), s)
+    let Some(i) = word_decode::decode(w) else {
+        return s;
+    };
+    let t = evaluate(flip_flops, x, i, s);
+    il_stores::change(flip_flops, i, s.result);
+    t
 }

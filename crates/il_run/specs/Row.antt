@@ -1,29 +1,14 @@
--- What is read of a row of timer blocks, block by block from the first, and what a scan and a run over a lent row leave.
+-- Whether the blocks of a row are in time, block by block from the first, and what a run over a lent row leaves.
 use Rattle.std.specs.Prelude.{◌≡◌, ℕ, suc, Bool, ◌&&◌, List, [], ◌∷◌}
 use Rattle.std.proofs.lemmas.List.Edits.{sets}
 use Rattle.meaning.specs.declared.Block.{Block}
-use Rattle.il_values.specs.Value.{with_bit}
 use Rattle.il_block.specs.Called.{in_its_time}
-use Rattle.il_scan.specs.Run.{ScanPoint, whole_scan, fresh_registers}
+use Rattle.il_scan.specs.Row.{scan_of}
 
--- the blocks' Q as a word, T1's the lowest bit; a word has no bit for a block after the 64th
-unfoldable pub q_word : ℕ → List Block → ℕ → ℕ
-q_word i [] qs = qs
-q_word i (b ∷ bs) qs = q_word (suc i) bs (with_bit qs i b.q)
-
+-- whether the blocks from place i on are in time, after those before it
 unfoldable pub in_time : ℕ → List Block → List ℕ → Bool → Bool
 in_time i [] ts ok = ok
 in_time i (b ∷ bs) ts ok = in_time (suc i) bs ts (ok && in_its_time i b ts)
-
--- a scan of the words ws over a row, with the input word x
-unfoldable pub scan_of : ℕ → ℕ → List ℕ → List ℕ → List Block → ScanPoint
-scan_of d x ws fs bs = whole_scan d x ws (record { s = fresh_registers (q_word 0 bs 0); flip_flops = fs; bs = bs })
-
--- the bytes, the row and the output word that a scan leaves
-pub record RowScan (d x : ℕ) (ws fs : List ℕ) (bs : List Block) (fs' : List ℕ) (bs' : List Block) (o : ℕ) : Type 0 where
-  pub flip_flops : fs' ≡ (scan_of d x ws fs bs).flip_flops
-  pub blocks : bs' ≡ (scan_of d x ws fs bs).bs
-  pub outputs : o ≡ (scan_of d x ws fs bs).s.outputs
 
 -- what a run is over: the bytes, the row, and the output words of its scans
 pub record RunData : Type 0 where

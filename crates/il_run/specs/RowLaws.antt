@@ -12,19 +12,12 @@ use Rattle.meaning.specs.declared.Block.{Block}
 use Rattle.il_values.specs.Value.{with_bit, qs_of}
 use Rattle.il_values.specs.Bits.{word_set}
 use Rattle.il_scan.specs.Run.{ScanPoint}
+use Rattle.il_scan.specs.Row.{q_word, scan_of, RowScan}
 use Rattle.il_scan.specs.Scans.{controller_of, whole_from, after_scan, output_after, Fitting, scan_right, after_length, OneScan}
 use Rattle.il_block.specs.Called.{in_its_time}
-use Rattle.il_run.specs.Row.{q_word, in_time, scan_of, RowScan, RunData, run_of, RowRun}
+use Rattle.il_run.specs.Row.{in_time, RunData, run_of, RowRun}
 
 -- ---- one turn
-
-pub q_on : (bs : List Block) (i qs : ℕ) → i < length bs → q_word i (drop i bs) qs ≡ q_word (i + 1) (drop (i + 1) bs) (with_bit qs i (get_or bs i blank).q)
-unfolding q_word
-q_on bs i qs h = rw (drop-cons bs i blank h, add-one)
-
-pub q_end : (bs : List Block) (i qs : ℕ) → length bs ≤ i → q_word i (drop i bs) qs ≡ qs
-unfolding q_word
-q_end bs i qs h = rw (drop_of_length-le bs {i = i} h)
 
 pub time_on : (bs : List Block) (ts : List ℕ) (i : ℕ) (ok : Bool) → i < length bs → in_time i (drop i bs) ts ok ≡ in_time (i + 1) (drop (i + 1) bs) ts (ok && in_its_time i (get_or bs i blank) ts)
 unfolding in_time
@@ -33,6 +26,12 @@ time_on bs ts i ok h = rw (drop-cons bs i blank h, add-one)
 pub time_end : (bs : List Block) (ts : List ℕ) (i : ℕ) (ok : Bool) → length bs ≤ i → in_time i (drop i bs) ts ok ≡ ok
 unfolding in_time
 time_end bs ts i ok h = rw (drop_of_length-le bs {i = i} h)
+
+-- after a block out of its time none of the rest changes the answer
+pub time_out : (bs : List Block) (ts : List ℕ) (i : ℕ) → in_time i bs ts false ≡ false
+unfolding in_time
+time_out [] ts i = refl
+time_out (b ∷ bs) ts i = time_out bs ts (suc i)
 
 -- ---- a run, scan after scan
 

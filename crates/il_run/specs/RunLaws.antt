@@ -1,5 +1,7 @@
 -- That the checks, in their order, and the run over the lent row come to what Runs allows.
-use Rattle.std.specs.Prelude.{◌≡◌, ◌↔◌, ℕ, zero, suc, ◌+◌, ◌≤◌, ◌<◌, Bool, false, ◌&&◌, List, [], ◌∷◌, ◌++◌, get_or, ltb, eqb}
+use Rattle.meaning.specs.Refusals.{Answer}
+use Rattle.meaning.specs.Refusals.{Verdict}
+use Rattle.std.specs.Prelude.{◌≡◌, ◌↔◌, ℕ, zero, suc, ◌+◌, ◌≤◌, ◌<◌, Bool, false, ◌&&◌, List, [], ◌∷◌, ◌++◌, get_or, ltb, eqb, Ok, Err}
 use Rattle.std.proofs.Math.Path.{refl, sym}
 use Rattle.std.proofs.Common.{ap, ◌∙◌, append-nil, drop_of_length-le, lt-ltb, le-leb, leb-true, eqb-true}
 use native.Mathlib.Omega.{arith}
@@ -13,8 +15,6 @@ use Rattle.meaning.specs.Literals.{between}
 use Rattle.meaning.specs.Programs.{TimerRung, Program, instructions}
 use Rattle.meaning.specs.Scan.{ValidController, blank, scanned}
 use Rattle.meaning.specs.declared.Block.{Block}
-use Rattle.meaning.specs.declared.Verdict.{Verdict}
-use Rattle.meaning.specs.declared.Verdict.TheVariants as G
 use Rattle.meaning.specs.declared.Refusal.{Refusal}
 use Rattle.meaning.specs.declared.Refusal.TheVariants.{Size}
 use Rattle.il_scan.specs.Scans.{controller_of, Fitting}
@@ -22,12 +22,9 @@ use Rattle.il_times.specs.Sizes.{rungs_in, no_rungs, SizesAsked, program_asks}
 use Rattle.il_times.specs.Validity.{time_at, some_rung, few_timers_lem}
 use Rattle.il_check.specs.Judged.{StatePasses, JudgedBy, rest_of, is_accepted}
 use Rattle.il_block.specs.Called.{in_its_time}
-use Rattle.il_run.specs.Row.{in_time, scan_of, RowScan, RowRun, run_of}
+use Rattle.il_scan.specs.Row.{scan_of, RowScan}
+use Rattle.il_run.specs.Row.{in_time, RowRun, run_of}
 use Rattle.il_run.specs.RowLaws.{row_scan_right, row_run_right}
-use Rattle.meaning.specs.declared.Ran.{Ran}
-use Rattle.meaning.specs.declared.Ran.TheVariants.{Done, Refused}
-use Rattle.il_run.specs.declared.Scanned.{Scanned}
-use Rattle.il_run.specs.declared.Scanned.TheVariants as One
 use Rattle.il_run.specs.Runs.{Refuses, AcceptsRun, Ends, ProgramRan, ProgramScanned, run_ends}
 
 -- ---- the blocks in time
@@ -85,22 +82,14 @@ module _ (p : Program) (ws fs : List ℕ) (bs : List Block) (f : Fitting p ws) w
 
 -- ---- the checks, in their order
 
-abbrev pub ran_for : Verdict → Ran
-ran_for G.Accepted = Done 0
-ran_for (G.Refused q) = Refused q
-
-abbrev pub scanned_for : Verdict → Scanned
-scanned_for G.Accepted = One.Outputs 0
-scanned_for (G.Refused q) = One.Refused q
-
 refusal : Verdict → Refusal
-refusal G.Accepted = Size
-refusal (G.Refused q) = q
+refusal (Ok tt) = Size
+refusal (Err q) = q
 
-not_accepted : {v : Verdict} {q : Refusal} → v ≡ G.Refused q → is_accepted v ≡ true → ⊥
+not_accepted : {v : Verdict} {q : Refusal} → v ≡ Err q → is_accepted v ≡ true → ⊥
 not_accepted e a = false≢true (sym (ap is_accepted e) ∙ a)
 
-refused_same : {v : Verdict} {q s : Refusal} → v ≡ G.Refused q → v ≡ G.Refused s → q ≡ s
+refused_same : {v : Verdict} {q s : Refusal} → v ≡ Err q → v ≡ Err s → q ≡ s
 unfolding refusal
 refused_same e f = sym (ap refusal e) ∙ ap refusal f
 
@@ -115,20 +104,15 @@ module _ {d : ℕ} {ws fs : List ℕ} {bs : List Block} {i m : ℕ} {v : Verdict
   accepts (JudgedBy.text b k w e) a = absurd (not_accepted e a)
   accepts (JudgedBy.rest b p f ok h e) a = (p, accepts_rest b p f ok (eqb m i) h refl e a)
 
-  refuses_rest : between 1 most_scan_step d ≡ true → (p : Program) → Fitting p ws → (ok fit : Bool) → (ok ≡ true) ↔ StatePasses ws fs (length bs) (length p.timers) (timely_of ws bs) → fit ≡ eqb m i → v ≡ rest_of ok fit → (q : Refusal) → v ≡ G.Refused q → Refuses d ws (controller_of fs bs) i m q
+  refuses_rest : between 1 most_scan_step d ≡ true → (p : Program) → Fitting p ws → (ok fit : Bool) → (ok ≡ true) ↔ StatePasses ws fs (length bs) (length p.timers) (timely_of ws bs) → fit ≡ eqb m i → v ≡ rest_of ok fit → (q : Refusal) → v ≡ Err q → Refuses d ws (controller_of fs bs) i m q
   refuses_rest b p f true true h g e q a = absurd (not_accepted a (ap is_accepted e))
   refuses_rest b p f true false h g e q a = Refuses.scans b p f.program f.list (state_valid p ws fs bs f (h.0 refl)) (eqb-false m i (sym g)) (refused_same a e)
   refuses_rest b p f false fit h g e q a = Refuses.state b p f.program f.list (λ w. false≢true (h.1 (valid_state p ws fs bs f w))) (refused_same a e)
 
-  refuses : JudgedBy d ws fs (length bs) (timely_of ws bs) i m v → (q : Refusal) → v ≡ G.Refused q → Refuses d ws (controller_of fs bs) i m q
+  refuses : JudgedBy d ws fs (length bs) (timely_of ws bs) i m v → (q : Refusal) → v ≡ Err q → Refuses d ws (controller_of fs bs) i m q
   refuses (JudgedBy.step b e) q a = Refuses.step b (refused_same a e)
   refuses (JudgedBy.text b k w e) q a = Refuses.text b k w (refused_same a e)
   refuses (JudgedBy.rest b p f ok h e) q a = refuses_rest b p f ok (eqb m i) h refl e q a
-
-refused_is : (v : Verdict) → is_accepted v ≡ false → v ≡ G.Refused (refusal v)
-unfolding refusal
-refused_is G.Accepted e = absurd (false≢true (sym e))
-refused_is (G.Refused q) e = refl
 
 -- ---- the answers
 
@@ -147,29 +131,29 @@ all_set l r e =
 few : {d : ℕ} {ws fs : List ℕ} {bs : List Block} {i m : ℕ} {p : Program} → AcceptsRun d ws (controller_of fs bs) i m p → length bs ≤ 64
 few {ws = ws} {p = p} a = let n = few_timers_lem p ws (record { program = a.program; list = a.list }) in omega (arith, a.state.blocks)
 
-pub run_done : {d : ℕ} {ws xs fs : List ℕ} {bs : List Block} {l : List ℕ} {v : Verdict} {timely : Bool} {r : Ran} {n : ℕ} {fs' : List ℕ} {bs' : List Block} {l' : List ℕ} → timely ≡ timely_of ws bs → JudgedBy d ws fs (length bs) timely (length xs) (length l) v → is_accepted v ≡ true
-    → RowRun d ws xs fs bs l fs' bs' l' → n ≡ length xs → r ≡ Done n → ProgramRan d ws xs (controller_of fs bs) l r (controller_of fs' bs') l'
-run_done {d} {ws} {xs} {fs} {bs} {l} {fs' = fs'} {bs' = bs'} t j e u n r =
-    let a = accepts (rw t at j) e in
+pub run_done : {d : ℕ} {ws xs fs : List ℕ} {bs : List Block} {l : List ℕ} {timely : Bool} {r : Answer} {n : ℕ} {fs' : List ℕ} {bs' : List Block} {l' : List ℕ} → timely ≡ timely_of ws bs → JudgedBy d ws fs (length bs) timely (length xs) (length l) (Ok tt)
+    → RowRun d ws xs fs bs l fs' bs' l' → n ≡ length xs → r ≡ Ok n → ProgramRan d ws xs (controller_of fs bs) l r (controller_of fs' bs') l'
+run_done {d} {ws} {xs} {fs} {bs} {l} {fs' = fs'} {bs' = bs'} t j u n r =
+    let a = accepts (rw t at j) refl in
     let p = a.0 in
     let g = row_run_right d p ws fs bs xs (record { program = a.1.program; list = a.1.list }) (few a.1) in
     let k : controller_of fs' bs' ≡ controller_of (run_of d ws fs bs xs).flip_flops (run_of d ws fs bs xs).bs = rw (u.flip_flops, u.blocks) in
     let o = outputs_long d ws fs bs xs in
-    run_ends (Ends.ran p a.1 (r ∙ ap Done n) (k ∙ g.0) (u.results ∙ all_set l (run_of d ws fs bs xs).os (a.1.scans ∙ sym o) ∙ g.1))
+    run_ends (Ends.ran p a.1 (r ∙ ap Ok n) (k ∙ g.0) (u.results ∙ all_set l (run_of d ws fs bs xs).os (a.1.scans ∙ sym o) ∙ g.1))
 
-pub run_refused : {d : ℕ} {ws xs fs : List ℕ} {bs : List Block} {l : List ℕ} {v : Verdict} {timely : Bool} {r : Ran} → timely ≡ timely_of ws bs → JudgedBy d ws fs (length bs) timely (length xs) (length l) v → is_accepted v ≡ false
-    → r ≡ ran_for v → ProgramRan d ws xs (controller_of fs bs) l r (controller_of fs bs) l
-run_refused {v = v} t j e r = let q = refused_is v e in run_ends (Ends.refused (refusal v) (refuses (rw t at j) (refusal v) q) (r ∙ ap ran_for q) refl refl)
+pub run_refused : {d : ℕ} {ws xs fs : List ℕ} {bs : List Block} {l : List ℕ} {q : Refusal} {timely : Bool} → timely ≡ timely_of ws bs → JudgedBy d ws fs (length bs) timely (length xs) (length l) (Err q)
+    → ProgramRan d ws xs (controller_of fs bs) l (Err q) (controller_of fs bs) l
+run_refused {q = q} t j = run_ends (Ends.refused q (refuses (rw t at j) q refl) refl refl refl)
 
-pub scan_done : {d : ℕ} {ws fs : List ℕ} {x : ℕ} {bs : List Block} {v : Verdict} {timely : Bool} {r : Scanned} {o : ℕ} {fs' : List ℕ} {bs' : List Block} → timely ≡ timely_of ws bs → JudgedBy d ws fs (length bs) timely 1 1 v → is_accepted v ≡ true
-    → RowScan d x ws fs bs fs' bs' o → r ≡ One.Outputs o → ProgramScanned d ws x (controller_of fs bs) r (controller_of fs' bs')
-scan_done {d} {ws} {fs} {x} {bs} {fs' = fs'} {bs' = bs'} t j e u r =
-    let a = accepts (rw t at j) e in
+pub scan_done : {d : ℕ} {ws fs : List ℕ} {x : ℕ} {bs : List Block} {timely : Bool} {r : Answer} {o : ℕ} {fs' : List ℕ} {bs' : List Block} → timely ≡ timely_of ws bs → JudgedBy d ws fs (length bs) timely 1 1 (Ok tt)
+    → RowScan d x ws fs bs fs' bs' o → r ≡ Ok o → ProgramScanned d ws x (controller_of fs bs) r (controller_of fs' bs')
+scan_done {d} {ws} {fs} {x} {bs} {fs' = fs'} {bs' = bs'} t j u r =
+    let a = accepts (rw t at j) refl in
     let p = a.0 in
     let g = row_scan_right d x p ws fs bs (record { program = a.1.program; list = a.1.list }) (few a.1) in
     let k : controller_of fs' bs' ≡ scanned d x (instructions p) (controller_of fs bs) = rw (u.flip_flops, u.blocks) g.0 in
-    ProgramScanned.ran p a.1 (r ∙ ap One.Outputs (u.outputs ∙ g.1)) k
+    ProgramScanned.ran p a.1 (r ∙ ap Ok (u.outputs ∙ g.1)) k
 
-pub scan_refused : {d : ℕ} {ws fs : List ℕ} {x : ℕ} {bs : List Block} {v : Verdict} {timely : Bool} {r : Scanned} → timely ≡ timely_of ws bs → JudgedBy d ws fs (length bs) timely 1 1 v → is_accepted v ≡ false
-    → r ≡ scanned_for v → ProgramScanned d ws x (controller_of fs bs) r (controller_of fs bs)
-scan_refused {v = v} t j e r = let q = refused_is v e in ProgramScanned.refused (refusal v) (refuses (rw t at j) (refusal v) q) (r ∙ ap scanned_for q) refl
+pub scan_refused : {d : ℕ} {ws fs : List ℕ} {x : ℕ} {bs : List Block} {q : Refusal} {timely : Bool} → timely ≡ timely_of ws bs → JudgedBy d ws fs (length bs) timely 1 1 (Err q)
+    → ProgramScanned d ws x (controller_of fs bs) (Err q) (controller_of fs bs)
+scan_refused {q = q} t j = ProgramScanned.refused q (refuses (rw t at j) q refl) refl refl

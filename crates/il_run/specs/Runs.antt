@@ -1,5 +1,6 @@
 -- What the calls that run a program answer, and that each has no second answer.
-use Rattle.std.specs.Prelude.{◌≡◌, ℕ, true, false, List, map, length}
+use Rattle.meaning.specs.Refusals.{Answer}
+use Rattle.std.specs.Prelude.{◌≡◌, ℕ, true, false, List, map, length, Ok, Err}
 use Rattle.std.proofs.Common.{sym, ap, ap₂, ◌∙◌, arith}
 use Rattle.meaning.proofs.Laws.Rows.{not_both}
 use Rattle.meaning.specs.Tables.{Tables, most_scan_step}
@@ -19,10 +20,6 @@ use Rattle.format.specs.Words.{words, AcceptedWords}
 use Rattle.format.specs.Places.{WordPlace}
 use Rattle.format.proofs.Laws.Words.{words_same, place_same}
 use Rattle.format.proofs.Laws.Bytes.{words_run}
-use Rattle.meaning.specs.declared.Ran.{Ran}
-use Rattle.meaning.specs.declared.Ran.TheVariants.{Done, Refused}
-use Rattle.il_run.specs.declared.Scanned.{Scanned}
-use Rattle.il_run.specs.declared.Scanned.TheVariants as One
 
 -- the refusals of a run of the words ws with the step d, over the controller k, with n input words and m results: "Checks 1 to
 -- 11 come first wherever tables or a scan step are given, then 13 where text or words are given, then 14, 15"
@@ -41,20 +38,20 @@ pub record AcceptsRun (d : ℕ) (ws : List ℕ) (k : Controller) (n m : ℕ) (p 
   pub scans : m ≡ n
 
 -- how a run with the input words xs ends, from the controller k and the results l: "A refusal writes nothing."
-pub data Ends (d : ℕ) (ws xs : List ℕ) (k : Controller) (l : List ℕ) (r : Ran) (k' : Controller) (l' : List ℕ) : Type 0 where
-  ran : (p : Program) → AcceptsRun d ws k (length xs) (length l) p → r ≡ Done (length xs) → k' ≡ scanned_all d (instructions p) k xs → l' ≡ output_trace d (instructions p) k xs → Ends d ws xs k l r k' l'
-  refused : (q : Refusal) → Refuses d ws k (length xs) (length l) q → r ≡ Refused q → k' ≡ k → l' ≡ l → Ends d ws xs k l r k' l'
+pub data Ends (d : ℕ) (ws xs : List ℕ) (k : Controller) (l : List ℕ) (r : Answer) (k' : Controller) (l' : List ℕ) : Type 0 where
+  ran : (p : Program) → AcceptsRun d ws k (length xs) (length l) p → r ≡ Ok (length xs) → k' ≡ scanned_all d (instructions p) k xs → l' ≡ output_trace d (instructions p) k xs → Ends d ws xs k l r k' l'
+  refused : (q : Refusal) → Refuses d ws k (length xs) (length l) q → r ≡ Err q → k' ≡ k → l' ≡ l → Ends d ws xs k l r k' l'
 
-pub record ProgramRan (d : ℕ) (ws xs : List ℕ) (k : Controller) (l : List ℕ) (r : Ran) (k' : Controller) (l' : List ℕ) : Type 0 where
+pub record ProgramRan (d : ℕ) (ws xs : List ℕ) (k : Controller) (l : List ℕ) (r : Answer) (k' : Controller) (l' : List ℕ) : Type 0 where
   pub ends : Ends d ws xs k l r k' l'
   -- demand 3, of every chart whose program the words are: from cleared memory the outputs after each scan, and the leaf that the flip-flops show in the end, are what the inputs and the list of earlier leaves call for
-  pub reads : (n : ℕ) → r ≡ Done n → (c : Tables) → Rules c → c.scan_step ≡ d → words (program c) ≡ ws → k ≡ cleared (program c)
+  pub reads : (n : ℕ) → r ≡ Ok n → (c : Tables) → Rules c → c.scan_step ≡ d → words (program c) ≡ ws → k ≡ cleared (program c)
       → (l' ≡ map (λ (e : Seen). e.outputs) (history_reading c xs)) × (coded_leaf c k'.flip_flops ≡ last_leaf (first_leaf c) (history_reading c xs))
 
 -- one scan with the input word x
-pub data ProgramScanned (d : ℕ) (ws : List ℕ) (x : ℕ) (k : Controller) (r : Scanned) (k' : Controller) : Type 0 where
-  ran : (p : Program) → AcceptsRun d ws k 1 1 p → r ≡ One.Outputs (output_word d x (instructions p) k) → k' ≡ scanned d x (instructions p) k → ProgramScanned d ws x k r k'
-  refused : (q : Refusal) → Refuses d ws k 1 1 q → r ≡ One.Refused q → k' ≡ k → ProgramScanned d ws x k r k'
+pub data ProgramScanned (d : ℕ) (ws : List ℕ) (x : ℕ) (k : Controller) (r : Answer) (k' : Controller) : Type 0 where
+  ran : (p : Program) → AcceptsRun d ws k 1 1 p → r ≡ Ok (output_word d x (instructions p) k) → k' ≡ scanned d x (instructions p) k → ProgramScanned d ws x k r k'
+  refused : (q : Refusal) → Refuses d ws k 1 1 q → r ≡ Err q → k' ≡ k → ProgramScanned d ws x k r k'
 
 -- ---- no second answer
 
@@ -86,18 +83,18 @@ module _ {d : ℕ} {ws : List ℕ} {k : Controller} {n m : ℕ} where
   same_program : {p s : Program} → AcceptsRun d ws k n m p → AcceptsRun d ws k n m s → p ≡ s
   same_program {p} {s} a b = words_same p s a.program b.program (a.list ∙ sym b.list)
 
-ends_same : {d : ℕ} {ws xs : List ℕ} {k : Controller} {l : List ℕ} {r s : Ran} {j k' : Controller} {m l' : List ℕ} → Ends d ws xs k l r k' l' → Ends d ws xs k l s j m → (r ≡ s) × (k' ≡ j) × (l' ≡ m)
+ends_same : {d : ℕ} {ws xs : List ℕ} {k : Controller} {l : List ℕ} {r s : Answer} {j k' : Controller} {m l' : List ℕ} → Ends d ws xs k l r k' l' → Ends d ws xs k l s j m → (r ≡ s) × (k' ≡ j) × (l' ≡ m)
 ends_same {d} {ws} {xs} {k} (Ends.ran p a e f g) (Ends.ran s b h i o) = let z = same_program a b in
     (e ∙ sym h, f ∙ ap (λ (t : Program). scanned_all d (instructions t) k xs) z ∙ sym i, g ∙ ap (λ (t : Program). output_trace d (instructions t) k xs) z ∙ sym o)
 ends_same (Ends.ran p a e f g) (Ends.refused q b h i o) = absurd (never a b)
 ends_same (Ends.refused q a e f g) (Ends.ran p b h i o) = absurd (never b a)
-ends_same (Ends.refused q a e f g) (Ends.refused s b h i o) = (e ∙ ap Refused (refuses_same a b) ∙ sym h, f ∙ sym i, g ∙ sym o)
+ends_same (Ends.refused q a e f g) (Ends.refused s b h i o) = (e ∙ ap Err (refuses_same a b) ∙ sym h, f ∙ sym i, g ∙ sym o)
 
-pub one_program_run : {d : ℕ} {ws xs : List ℕ} {k : Controller} {l : List ℕ} {r s : Ran} {j k' : Controller} {m l' : List ℕ} → ProgramRan d ws xs k l r k' l' → ProgramRan d ws xs k l s j m → (r ≡ s) × (k' ≡ j) × (l' ≡ m)
+pub one_program_run : {d : ℕ} {ws xs : List ℕ} {k : Controller} {l : List ℕ} {r s : Answer} {j k' : Controller} {m l' : List ℕ} → ProgramRan d ws xs k l r k' l' → ProgramRan d ws xs k l s j m → (r ≡ s) × (k' ≡ j) × (l' ≡ m)
 one_program_run p q = ends_same p.ends q.ends
 
 -- how a run ends is all that there is to prove
-pub run_ends : {d : ℕ} {ws xs : List ℕ} {k : Controller} {l : List ℕ} {r : Ran} {k' : Controller} {l' : List ℕ} → Ends d ws xs k l r k' l' → ProgramRan d ws xs k l r k' l'
+pub run_ends : {d : ℕ} {ws xs : List ℕ} {k : Controller} {l : List ℕ} {r : Answer} {k' : Controller} {l' : List ℕ} → Ends d ws xs k l r k' l' → ProgramRan d ws xs k l r k' l'
 run_ends {d} {ws} {xs} {k} {l} {r} {k'} {l'} (Ends.ran p a e f g) = record {
   ends = Ends.ran p a e f g;
   reads = λ n z c R s w m.
@@ -110,9 +107,9 @@ run_ends {d} {ws} {xs} {k} {l} {r} {k'} {l'} (Ends.ran p a e f g) = record {
 }
 run_ends (Ends.refused q b e f g) = record { ends = Ends.refused q b e f g; reads = λ n z. absurd (let o : ◌≡◌ {A = ℕ} 0 1 = cc in omega arith) }
 
-pub one_program_scan : {d : ℕ} {ws : List ℕ} {x : ℕ} {k : Controller} {r s : Scanned} {j k' : Controller} → ProgramScanned d ws x k r k' → ProgramScanned d ws x k s j → (r ≡ s) × (k' ≡ j)
+pub one_program_scan : {d : ℕ} {ws : List ℕ} {x : ℕ} {k : Controller} {r s : Answer} {j k' : Controller} → ProgramScanned d ws x k r k' → ProgramScanned d ws x k s j → (r ≡ s) × (k' ≡ j)
 one_program_scan {d} {ws} {x} {k} (ProgramScanned.ran p a e f) (ProgramScanned.ran s b h i) = let z = same_program a b in
-    (e ∙ ap (λ (t : Program). One.Outputs (output_word d x (instructions t) k)) z ∙ sym h, f ∙ ap (λ (t : Program). scanned d x (instructions t) k) z ∙ sym i)
+    (e ∙ ap (λ (t : Program). Ok (output_word d x (instructions t) k)) z ∙ sym h, f ∙ ap (λ (t : Program). scanned d x (instructions t) k) z ∙ sym i)
 one_program_scan (ProgramScanned.ran p a e f) (ProgramScanned.refused q b h i) = absurd (never a b)
 one_program_scan (ProgramScanned.refused q a e f) (ProgramScanned.ran p b h i) = absurd (never b a)
-one_program_scan (ProgramScanned.refused q a e f) (ProgramScanned.refused s b h i) = (e ∙ ap One.Refused (refuses_same a b) ∙ sym h, f ∙ sym i)
+one_program_scan (ProgramScanned.refused q a e f) (ProgramScanned.refused s b h i) = (e ∙ ap Err (refuses_same a b) ∙ sym h, f ∙ sym i)

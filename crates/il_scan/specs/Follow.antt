@@ -1,5 +1,5 @@
 -- The scan with one value deferred does what the instructions of a program that fits do.
-use Rattle.std.specs.Prelude.{◌≡◌, Bool, true, false, ◌&&◌, ◌||◌, cond, length, get_or, set, leb}
+use Rattle.std.specs.Prelude.{◌≡◌, Bool, true, false, ◌&&◌, ◌||◌, cond, length, get_or, set, leb, Some}
 use Rattle.std.proofs.Math.Path.{refl, sym}
 use Rattle.std.proofs.Common.{ap, ◌∙◌, le_refl, true≢false}
 use Rattle.std.proofs.Math.Logic.{inl, inr}
@@ -26,7 +26,6 @@ use Rattle.meaning.specs.declared.Operator.{Operator}
 use Rattle.meaning.specs.declared.Operator.TheVariants.{Ld, Ldn, And, Andn, Or, Close, St, S, R, Cal, LdTime}
 use Rattle.meaning.proofs.Laws.Timers.{changed_twice}
 use Rattle.meaning.proofs.Laws.Execute.{executed_append}
-use Rattle.format.specs.declared.Decoded.TheVariants.{Known}
 use Rattle.il_instruction.specs.Effect as run
 use Rattle.il_values.specs.Value.{bit_on, with_bit, value_in, qs_of}
 use Rattle.il_instruction.specs.Effect.{stored_to, evaluated, running, flip_flops_after}
@@ -39,7 +38,7 @@ use Rattle.il_values.specs.Bits.{word_bit, word_set}
 -- the scan by instructions
 unfoldable pub ran_all : ℕ → ℕ → List Operator → ScanPoint → ScanPoint
 ran_all d x [] w = w
-ran_all d x (i ∷ is) w = ran_all d x is (one_word d x (Known i) w)
+ran_all d x (i ∷ is) w = ran_all d x is (one_word d x (Some i) w)
 
 -- w stands for v, with a deferred by brackets
 pub record StandsMidScan (a : List Bool) (w : ScanPoint) (v : MidScan) : Type 0 where
@@ -102,8 +101,8 @@ changed_thrice d bs n r t = rw (changed_twice bs n (with_in r) (with_pt t), chan
 
 module _ (d x : ℕ) where
   -- an instruction that is no CAL
-  plain : (i : Operator) (w : ScanPoint) → due (length w.bs) (Known i) ≡ length w.bs
-      → one_word d x (Known i) w ≡ record { s = running x w.flip_flops (Known i) w.s; flip_flops = flip_flops_after (Known i) w.s.result w.flip_flops; bs = w.bs }
+  plain : (i : Operator) (w : ScanPoint) → due (length w.bs) (Some i) ≡ length w.bs
+      → one_word d x (Some i) w ≡ record { s = running x w.flip_flops (Some i) w.s; flip_flops = flip_flops_after (Some i) w.s.result w.flip_flops; bs = w.bs }
   unfolding one_word
   plain i w e = rw (e, le-ltb (length w.bs) (length w.bs) (le_refl (length w.bs)))
 
@@ -114,7 +113,7 @@ module _ (d x : ℕ) where
   ran_append : (is js : List Operator) (w : ScanPoint) → ran_all d x (is ++ js) w ≡ ran_all d x js (ran_all d x is w)
   unfolding ran_all
   ran_append [] js w = refl
-  ran_append (i ∷ is) js w = ran_append is js (one_word d x (Known i) w)
+  ran_append (i ∷ is) js w = ran_append is js (one_word d x (Some i) w)
 
   nothing : {a : List Bool} → Follows a [] a
   unfolding ran_all executed_all
@@ -123,7 +122,7 @@ module _ (d x : ℕ) where
   then : {a b c : List Bool} (is js : List Operator) → Follows a is b → Follows b js c → Follows a (is ++ js) c
   then is js f g w v h = rw (ran_append is js w, executed_append d x is js v) (g _ _ (f w v h))
 
-  one : {a b : List Bool} (i : Operator) → ((w : ScanPoint) (v : MidScan) → StandsMidScan a w v → StandsMidScan b (one_word d x (Known i) w) (executed d x i v)) → Follows a (i ∷ []) b
+  one : {a b : List Bool} (i : Operator) → ((w : ScanPoint) (v : MidScan) → StandsMidScan a w v → StandsMidScan b (one_word d x (Some i) w) (executed d x i v)) → Follows a (i ∷ []) b
   unfolding ran_all executed_all
   one i f w v h = f w v h
 
@@ -147,7 +146,7 @@ module _ (d x : ℕ) where
   unfolding executed due called_by running evaluated flip_flops_after acted
   andn o = one (Andn o) λ w v h. rw (plain (Andn o) w refl) (with_result_lem w v _ _ (rw (h.result, value_same x o h)) h)
 
-  or : (w : ScanPoint) (v : MidScan) → StandsMidScan [] w v → StandsMidScan (v.result ∷ []) (one_word d x (Known Or) w) (executed d x Or v)
+  or : (w : ScanPoint) (v : MidScan) → StandsMidScan [] w v → StandsMidScan (v.result ∷ []) (one_word d x (Some Or) w) (executed d x Or v)
   unfolding executed due called_by running evaluated flip_flops_after acted head_d
   or w v h = rw (plain Or w refl) (record { result = h.result; deferred = rw h.deferred; kept = sym h.result; time = h.time; flip_flops = h.flip_flops; blocks = h.blocks; few = h.few; qs = h.qs; outputs = h.outputs; size = h.size })
 
@@ -276,11 +275,11 @@ module _ (d x : ℕ) where
 
   -- ---- timer rungs
 
-  cal_in : (n : ℕ) (w : ScanPoint) → n - 1 < length w.bs → one_word d x (Known (Cal (Timer n))) w ≡ calling d (n - 1) w
+  cal_in : (n : ℕ) (w : ScanPoint) → n - 1 < length w.bs → one_word d x (Some (Cal (Timer n))) w ≡ calling d (n - 1) w
   unfolding one_word due called_by block_of
   cal_in n w h = let e : min (n - 1) (length w.bs) ≡ n - 1 = omega arith in rw (e, lt-ltb (n - 1) (length w.bs) h)
 
-  cal_out : (n : ℕ) (w : ScanPoint) → length w.bs ≤ n - 1 → one_word d x (Known (Cal (Timer n))) w ≡ w
+  cal_out : (n : ℕ) (w : ScanPoint) → length w.bs ≤ n - 1 → one_word d x (Some (Cal (Timer n))) w ≡ w
   unfolding due called_by block_of running evaluated flip_flops_after acted
   cal_out n w h = plain (Cal (Timer n)) w (omega arith)
 
@@ -288,7 +287,7 @@ module _ (d x : ℕ) where
   abbrev given : ℕ → ScanPoint → ScanPoint
   given t w = record { s = run.with_time_as_pt (run.time_loaded t (run.with_on w.s.result w.s)); flip_flops = w.flip_flops; bs = w.bs }
 
-  ran_timer : (n t : ℕ) (w : ScanPoint) → ran_all d x (St (TimerIn n) ∷ LdTime t ∷ St (TimerPt n) ∷ Cal (Timer n) ∷ []) w ≡ one_word d x (Known (Cal (Timer n))) (given t w)
+  ran_timer : (n t : ℕ) (w : ScanPoint) → ran_all d x (St (TimerIn n) ∷ LdTime t ∷ St (TimerPt n) ∷ Cal (Timer n) ∷ []) w ≡ one_word d x (Some (Cal (Timer n))) (given t w)
   unfolding ran_all due called_by running evaluated stored_to flip_flops_after acted flip_flop_put
   ran_timer n t w = rw (plain (St (TimerIn n)) w refl, plain (LdTime t) _ refl, plain (St (TimerPt n)) _ refl)
 

@@ -1,105 +1,68 @@
-// A program's words run over a lent controller: flip-flop bytes and timer blocks.
+// A program's words run over a lent controller: flip-flop bytes and one row of timer blocks. Every function over a row
+// is thin; what they do to a block, a word or a byte is done by others, by value.
 #![tactic(auto)]
 
-ghost use Rattle.std.specs.Prelude.{◌≡◌, length, drop};
-ghost use Rattle.il_scan.specs.Advance.{StopKnown};
-ghost use Rattle.il_scan.specs.Run.{advanced, resumed, fresh_registers};
+ghost use Rattle.std.specs.Prelude.{◌≡◌, ◌<◌, length, set, get_or};
+ghost use Rattle.meaning.specs.Scan.{blank};
+ghost use Rattle.il_block.specs.Called.{called_with};
+ghost use Rattle.il_scan.specs.Run.{fresh_registers};
+ghost use Rattle.il_scan.specs.Row.{q_word, RowScan};
 
 use il_instruction::Registers;
+use meaning::Block;
 
-// Where a scan stands: the next word; whether a CAL is due, of which block, from 0, with which IN and PT.
-#[derive(Clone, Copy)]
-pub struct Stop {
-    pub at: usize,
-    pub due: bool,
-    pub block: usize,
-    pub input: bool,
-    pub pt: u32,
-    pub running: Registers,
+// The blocks' Q as a word.
+fn q_word(blocks: &[Block]) -> u64
+    ensures { result ≡ q_word 0 blocks.now 0 }
+{
+    let mut qs = 0;
+    for (i, b) in blocks.iter().enumerate() {
+        qs = il_block::with_q(qs, i, *b);
+    }
+    qs
 }
 
-// Runs the words from where p stands up to and including the next CAL of one of so many blocks, or to the end.
-pub fn advance(words: &[u32], flip_flops: &mut [u8], x: u64, count: usize, p: Stop) -> Stop
-    ensures { (result ≡ (advanced x count (drop p.at words.now) p.at p.running
-        flip_flops.old).stop) × (flip_flops.new ≡ (advanced x count
-        (drop p.at words.now) p.at p.running flip_flops.old).flip_flops)
-        × StopKnown count (length words.now) p.at result }
+// With what a scan begins.
+fn begin(qs: u64) -> Registers
+    ensures { result ≡ fresh_registers qs }
 {
-    let mut at = p.at;
-    let mut s = p.running;
-    while at < words.len() {
-        let w = words[at];
-        at += 1;
-        let k = il_called::word_due(count, w);
-        if k < count {
-            return Stop {
-                at: at,
-                due: true,
-                block: k,
-                input: s.input,
-                pt: s.pt,
-                running: s,
-            };
-        }
-        s = il_instruction::run_word(flip_flops, x, w, s);
-    }
-    Stop {
-        at: at,
-        due: false,
-        block: 0,
-        input: s.input,
-        pt: s.pt,
-        running: s,
-    }
-}
-
-// After CAL of the block that was due, whose Q is now q.
-pub fn resume(p: Stop, q: bool) -> Stop
-    ensures { result ≡ resumed p q }
-{
-    let mut s = p.running;
-    let qs = s.qs;
-    let k = p.block;
-    if k < 64 {
-        s.qs = il_values::with_bit(qs, k as u16, q);
-    }
-    Stop {
-        at: p.at,
-        due: false,
-        block: 0,
-        input: s.input,
-        pt: s.pt,
-        running: s,
-    }
-}
-
-// Where a scan begins.
-pub fn begin(qs: u64) -> Stop
-    ensures { (result.at ≡ 0) × (result.running ≡ fresh_registers qs) }
-{
-    let s = Registers {
+    Registers {
         result: false,
         deferred: false,
         time: 0,
         input: false,
         pt: 0,
-        qs: qs,
+        qs,
         outputs: 0,
-    };
-    Stop {
-        at: 0,
-        due: false,
-        block: 0,
-        input: false,
-        pt: 0,
-        running: s,
     }
 }
 
-// The output word of a scan that has ended.
-pub fn outputs(t: Stop) -> u64
-    ensures { result ≡ t.running.outputs }
+// CAL: the block is updated where it lies, and its Q is answered.
+fn call(blocks: &mut [Block], n: usize, input: bool, pt: u32, step: u32) -> bool
+    requires { n < length blocks.old }
+    ensures { (blocks.new ≡ set blocks.old n
+        (called_with step input pt (get_or blocks.old n blank)))
+        × (result ≡ (called_with step input pt (get_or blocks.old n blank)).q) }
 {
-    let s = t.running;
+    let b = il_block::cal(blocks[n], input, pt, step);
+    blocks[n] = b;
+    b.q
+}
+
+// One scan over the lent flip-flop bytes and blocks.
+pub fn scan(words: &[u32], step: u32, x: u64, flip_flops: &mut [u8], blocks: &mut [Block]) -> u64
+    ensures { RowScan step x words.now flip_flops.old blocks.old
+        flip_flops.new blocks.new result }
+{
+    let mut s = begin(q_word(blocks));
+    for w in words {
+        match il_called::word_due(blocks.len(), *w) {
+            Some(k) => {
+                let q = call(blocks, k, s.input, s.pt, step);
+                s.qs = il_values::with_bit(s.qs, k, q);
+            }
+            None => s = il_instruction::run_word(flip_flops, x, *w, s),
+        }
+    }
     s.outputs
 }

@@ -1,21 +1,20 @@
 -- The flip-flop bytes that a list of words asks for, word by word.
-use Rattle.std.specs.Prelude.{◌≡◌, refl, ℕ, zero, suc, ◌+◌, ◌≤◌, ◌<◌, max, true, List, [], ◌∷◌, map, length, get_or, drop, leb}
+use Rattle.format.specs.Decode.{Decoded}
+use Rattle.std.specs.Prelude.{◌≡◌, refl, ℕ, zero, suc, ◌+◌, ◌≤◌, ◌<◌, max, true, List, [], ◌∷◌, map, length, get_or, drop, leb, Some, None}
 use Rattle.std.proofs.Common.{arith, add-one, drop_of_length-le, drop-cons, le-leb}
 use Rattle.std.proofs.Math.Decide.{dec_le}
 use Rattle.meaning.proofs.Laws.Rows.{and_l, and_r}
 use Rattle.meaning.specs.Programs.{all, testable, flip_flop_fits, carried, bytes_for, flip_flop_bytes}
 use Rattle.meaning.specs.declared.Operand.TheVariants.{Mx}
 use Rattle.meaning.specs.declared.Operator.{Operator}
-use Rattle.format.specs.declared.Decoded.{Decoded}
-use Rattle.format.specs.declared.Decoded.TheVariants.{Known, Unknown}
 use Rattle.format.specs.Words.{word}
 use Rattle.format.specs.Decode.{operator_fits, operand_of, kept, unpacked, decoded}
 use Rattle.format.proofs.Laws.Decode.{decode_word}
 use Rattle.format.proofs.Laws.Operands.{operand_mx}
 
 unfoldable pub bytes_in : Decoded → ℕ
-bytes_in (Known i) = bytes_for (carried i)
-bytes_in Unknown = 0
+bytes_in (Some i) = bytes_for (carried i)
+bytes_in None = 0
 
 -- the flip-flop bytes that the words name
 unfoldable pub bytes_named : List ℕ → ℕ

@@ -10,13 +10,7 @@ use meaning::{Operand, Operator};
 fn set_or_reset(part: &mut [u8], k: usize, v: bool)
     ensures { part.new ≡ set part.old k (cond v 1 0) }
 {
-    if k < part.len() {
-        if v {
-            part[k] = 1;
-        } else {
-            part[k] = 0;
-        }
-    }
+    slices::put(part, k, u8::from(v));
 }
 
 // "the second half of the lent flip-flop bytes": the working copies, lent on. A program that our writer did not make
@@ -24,77 +18,44 @@ fn set_or_reset(part: &mut [u8], k: usize, v: bool)
 fn act_on(flip_flops: &mut [u8], n: u16, v: bool)
     ensures { flip_flops.new ≡ set flip_flops.old n (cond v 1 0) }
 {
-    let k = n as usize;
-    let b = flip_flops.len() / 2;
-    if b <= k {
-        let copies = b;
-        set_or_reset(&mut flip_flops[copies..], k - b, v);
+    let k = usize::from(n);
+    let half = flip_flops.len() / 2;
+    if k < half {
+        set_or_reset(&mut flip_flops[..half], k, v);
     } else {
-        set_or_reset(&mut flip_flops[..b], k, v);
+        set_or_reset(&mut flip_flops[half..], k - half, v);
     }
 }
 
 // S or R of an operand.
+#[tactic(auto, unfolding(crate::specs::Acted::flip_flop_put))]
 fn act(flip_flops: &mut [u8], o: Operand, v: bool)
     ensures { flip_flops.new ≡ flip_flop_put v o flip_flops.old }
 {
-    match o {
-        Operand::Mx(n) => act_on(flip_flops, n, v),
-        Operand::Ix(_) => {}
-        Operand::Qx(_) => {}
-        Operand::TimerQ(_) => {}
-        Operand::TimerIn(_) => {}
-        Operand::TimerPt(_) => {}
-        Operand::Timer(_) => {}
-        Operand::False => {}
-        Operand::True => {}
-    }
-}
-
-fn act_when(flip_flops: &mut [u8], o: Operand, on: bool, v: bool)
-    ensures { flip_flops.new ≡ cond on (flip_flop_put v o flip_flops.old)
-        flip_flops.old }
-{
-    if on {
-        act(flip_flops, o, v);
+    if let Operand::Mx(n) = o {
+        act_on(flip_flops, n, v);
     }
 }
 
 // ST of a result.
+#[tactic(auto, unfolding(crate::specs::Acted::flip_flop_put))]
 fn store(flip_flops: &mut [u8], o: Operand, v: bool)
     ensures { flip_flops.new ≡ flip_flop_put v o flip_flops.old }
 {
-    match o {
-        Operand::Mx(n) => {
-            let k = n as usize;
-            set_or_reset(flip_flops, k, v)
-        }
-        Operand::Ix(_) => {}
-        Operand::Qx(_) => {}
-        Operand::TimerQ(_) => {}
-        Operand::TimerIn(_) => {}
-        Operand::TimerPt(_) => {}
-        Operand::Timer(_) => {}
-        Operand::False => {}
-        Operand::True => {}
+    if let Operand::Mx(n) = o {
+        set_or_reset(flip_flops, usize::from(n), v);
     }
 }
 
 // What an instruction does to the flip-flops, where the result is v: "S and R act only on a true result."
+#[tactic(auto, unfolding(crate::specs::Acted::acted))]
 pub fn change(flip_flops: &mut [u8], i: Operator, v: bool)
     ensures { flip_flops.new ≡ acted i v flip_flops.old }
 {
     match i {
-        Operator::Ld(_) => {}
-        Operator::Ldn(_) => {}
-        Operator::And(_) => {}
-        Operator::Andn(_) => {}
-        Operator::Or => {}
-        Operator::Close => {}
         Operator::St(o) => store(flip_flops, o, v),
-        Operator::S(o) => act_when(flip_flops, o, v, true),
-        Operator::R(o) => act_when(flip_flops, o, v, false),
-        Operator::Cal(_) => {}
-        Operator::LdTime(_) => {}
+        Operator::S(o) if v => act(flip_flops, o, true),
+        Operator::R(o) if v => act(flip_flops, o, false),
+        _ => {}
     }
 }

@@ -1,5 +1,6 @@
 -- The time of each block's rung in a list of words, and all that the words ask of a lent controller.
-use Rattle.std.specs.Prelude.{◌≡◌, refl, ℕ, suc, ◌+◌, ◌-◌, ◌/◌, ◌≤◌, ◌<◌, min, Bool, true, false, ◌&&◌, cond, length, get_or, set, drop, replicate, leb}
+use Rattle.format.specs.Decode.{Decoded}
+use Rattle.std.specs.Prelude.{◌≡◌, refl, ℕ, suc, ◌+◌, ◌-◌, ◌/◌, ◌≤◌, ◌<◌, min, Bool, true, false, ◌&&◌, cond, length, get_or, set, drop, replicate, leb, Some, None}
 use Rattle.std.proofs.Common.{◌∙◌, arith, drop_of_length-le, drop-cons, add-one, leb-true, le-leb}
 use Rattle.std.proofs.lemmas.Bool.{false≢true, lt-leb}
 use mathlib.Core.List.{List, [], ◌∷◌, ◌++◌, map, flat_map}
@@ -10,8 +11,6 @@ use Rattle.meaning.specs.Programs.{Test, Chain, Part, also, bracket, Body, Rung,
 use Rattle.meaning.specs.declared.Operand.{Operand}
 use Rattle.meaning.specs.declared.Operator.{Operator}
 use Rattle.meaning.specs.declared.Operator.TheVariants.{Ld, Ldn, And, Andn, Or, Close, St, S, R, Cal, LdTime}
-use Rattle.format.specs.declared.Decoded.{Decoded}
-use Rattle.format.specs.declared.Decoded.TheVariants.{Known, Unknown}
 use Rattle.format.specs.Words.{word, words}
 use Rattle.format.specs.Decode.{operator_fits, decoded}
 use Rattle.format.proofs.Laws.Decode.{decode_word, word_decode}
@@ -35,8 +34,8 @@ time_after t (LdTime n) = n
 
 -- the time loaded last
 unfoldable pub time_in : ℕ → Decoded → ℕ
-time_in t (Known i) = time_after t i
-time_in t Unknown = t
+time_in t (Some i) = time_after t i
+time_in t None = t
 
 -- the time loaded last, and the times at the calls, in a list of 32
 pub record Rungs : Type 0 where
@@ -58,7 +57,7 @@ no_rungs = record { time = 0; times = replicate 32 0 }
 
 rungs_by : List Operator → Rungs → Rungs
 rungs_by [] r = r
-rungs_by (i ∷ is) r = rungs_by is (rung_after (Known i) r)
+rungs_by (i ∷ is) r = rungs_by is (rung_after (Some i) r)
 
 rungs_words : (is : List Operator) (r : Rungs) → all operator_fits is ≡ true → rungs_in (map word is) r ≡ rungs_by is r
 unfolding all rungs_in rungs_by
@@ -68,7 +67,7 @@ rungs_words (i ∷ is) r e = rw (rungs_in, decode_word i (and_l (operator_fits i
 rungs_append : (is js : List Operator) (r : Rungs) → rungs_by (is ++ js) r ≡ rungs_by js (rungs_by is r)
 unfolding rungs_by
 rungs_append [] js r = refl
-rungs_append (i ∷ is) js r = rungs_append is js (rung_after (Known i) r)
+rungs_append (i ∷ is) js r = rungs_append is js (rung_after (Some i) r)
 
 -- instructions that call no block and load no time
 Idle : List Operator → Type 0
@@ -102,7 +101,7 @@ idle_chain : (h : Chain) → Idle (chain_of h)
 unfolding chain_of
 idle_chain h = idle_then (load_of h.first ∷ []) (map and_of h.more) (idle_load h.first) (idle_ands h.more)
 
-idle_bare : (i : Operator) → due 32 (Known i) ≡ 32 → ((t : ℕ) → time_after t i ≡ t) → Idle (i ∷ [])
+idle_bare : (i : Operator) → due 32 (Some i) ≡ 32 → ((t : ℕ) → time_after t i ≡ t) → Idle (i ∷ [])
 unfolding Idle rungs_by rung_after time_in
 idle_bare i e f r = rw (e, f r.time)
 
@@ -203,16 +202,16 @@ pub not_timed : (t w : ℕ) → w / 134217728 < 10 → time_in t (decoded w) ≡
 unfolding time_in time_after word
 not_timed t w h = at (decoded w) (word_decode w)
   where
-    at : (d : Decoded) → ((i : Operator) → d ≡ Known i → (operator_fits i ≡ true) × (word i ≡ w)) → time_in t d ≡ t
-    at Unknown f = refl
-    at (Known (Ld o)) f = refl
-    at (Known (Ldn o)) f = refl
-    at (Known (And o)) f = refl
-    at (Known (Andn o)) f = refl
-    at (Known Or) f = refl
-    at (Known Close) f = refl
-    at (Known (St o)) f = refl
-    at (Known (S o)) f = refl
-    at (Known (R o)) f = refl
-    at (Known (Cal o)) f = refl
-    at (Known (LdTime n)) f = absurd (omega (arith, (f (LdTime n) refl).1))
+    at : (d : Decoded) → ((i : Operator) → d ≡ Some i → (operator_fits i ≡ true) × (word i ≡ w)) → time_in t d ≡ t
+    at None f = refl
+    at (Some (Ld o)) f = refl
+    at (Some (Ldn o)) f = refl
+    at (Some (And o)) f = refl
+    at (Some (Andn o)) f = refl
+    at (Some Or) f = refl
+    at (Some Close) f = refl
+    at (Some (St o)) f = refl
+    at (Some (S o)) f = refl
+    at (Some (R o)) f = refl
+    at (Some (Cal o)) f = refl
+    at (Some (LdTime n)) f = absurd (omega (arith, (f (LdTime n) refl).1))

@@ -69,7 +69,7 @@ unfolding bit_on
 bit_zero w = let e : w / 2 ^ 0 ≡ w = div-one w in rw e
 
 -- a word with a bit that it did not have weighs that bit more
-or_weighs : (k w : ℕ) → bit_or w (2 ^ k) + cond (bit_on w k) (2 ^ k) 0 ≡ w + 2 ^ k
+pub or_weighs : (k w : ℕ) → bit_or w (2 ^ k) + cond (bit_on w k) (2 ^ k) 0 ≡ w + 2 ^ k
 or_weighs zero w =
     let s : bit_or w 1 ≡ w / 2 * 2 + max (w % 2) 1 = or_step w 1 ∙ rw (or_zero_r (w / 2)) in
     elim (even w) [ inl e ↦ rw (s, bit_zero w, e) (omega arith) | inr e ↦ rw (s, bit_zero w, e) (omega arith) ]

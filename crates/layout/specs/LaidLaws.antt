@@ -1,5 +1,5 @@
 -- Laws of Laid.antt: how rows and tallies grow, and what a layout says of each state.
-use Rattle.std.specs.Prelude.{ℕ, suc, ◌+◌, ◌≤◌, ◌<◌, ◌≡◌, refl, ◌≢◌, Bool, true, false, cond, List, [], length, set, replicate, ltb}
+use Rattle.std.specs.Prelude.{ℕ, suc, ◌+◌, ◌≤◌, ◌<◌, ◌≡◌, refl, ◌≢◌, Bool, true, false, cond, List, length, set, replicate, ltb, max}
 use Rattle.std.proofs.Common.{sym, ◌∙◌, inl, inr, zero-add, add-zero, le_trans, arith, length-set, get_or-set_same, get_or-set_other, ext_get_or}
 use Rattle.std.proofs.Math.Path.{ap}
 use Rattle.std.proofs.Math.Bool.{and-false}
@@ -105,9 +105,12 @@ tally_skip t s q = ext_get_or 0 (tally t s) (tally t (suc s)) (length_tally t s 
 
 -- ---- one more state
 
--- tables with these states and nothing else
-abbrev pub states_only : List ℕ → Tables
-states_only l = record { scan_step = 0; inputs = 0; outputs = 0; states = l; moves = []; presets = []; timer_pairs = []; output_pairs = [] }
+-- after the states from 1 on, of n, where the root changes nothing: all n are done, or only the root is
+pub all_done : {A : Type 0} (f : ℕ → A) (s n : ℕ) → f 0 ≡ f 1 → 1 ≤ s → n ≤ s → s ≤ max n 1 → f s ≡ f n
+all_done f s n e one h k = elim (dec_le 1 n) [
+  | yes l ↦ ap f (omega arith)
+  | no l ↦ (let r : s ≡ 1 = omega arith in let z : n ≡ 0 = omega arith in rw (r, z) (sym e))
+]
 
 no_sub : (c : Tables) (a s : ℕ) → a ≢ super_state c s → sub_state c a s ≡ false
 no_sub c a s n = elim (which (sub_state c a s)) [ inl e ↦ absurd (n (sym ((sub_state_tells c a s).0 e).under)) | inr e ↦ e ]
@@ -202,8 +205,8 @@ tally_width c a h =
     ap width (tally_at (sub_state c) (laid_states c) a (omega (arith, laid_all c l)) ∙ ap (count (sub_state c a)) (laid_all c l))
 
 -- no state of those laid out has more sub-states than there are states
-pub few_subs : {l counts : List ℕ} → ((c : Tables) → c.states ≡ l → counts ≡ tally (sub_state c) (laid_states c)) → (a : ℕ) → a < 256 → get_or counts a 0 ≤ 256
-few_subs {l} f a h = let t = states_only l in rw (f t refl) (le_trans (tally_le (sub_state t) (laid_states t) a h) (laid_most t))
+pub few_subs : (c : Tables) {counts : List ℕ} → counts ≡ tally (sub_state c) (laid_states c) → (a : ℕ) → a < 256 → get_or counts a 0 ≤ 256
+few_subs c e a h = rw e (le_trans (tally_le (sub_state c) (laid_states c) a h) (laid_most c))
 
 pub width_small : (n : ℕ) → n ≤ 256 → width n ≤ 8
 width_small n h = (width_least n).least 8 h

@@ -2,15 +2,16 @@
 // the states gives each, so that the whole is linear in their number.
 #![tactic(auto)]
 
-ghost use Rattle.std.specs.Prelude.{◌≡◌, ◌+◌, ◌/◌, ◌<◌, ◌≤◌, length};
-ghost use Rattle.meaning.specs.Rows.{least, count};
-ghost use Rattle.meaning.specs.Tables.{Tables, state_count};
+ghost use Rattle.std.specs.Prelude.{◌≡◌, ◌+◌, ◌<◌, ◌≤◌};
+ghost use Rattle.meaning.specs.Rows.{least};
+ghost use Rattle.meaning.specs.Tables.{state_count};
 ghost use Rattle.meaning.specs.Hierarchy.{sub_state};
 ghost use Rattle.meaning.specs.Layout.{width, group_first, other_sub_state};
 ghost use Rattle.meaning.specs.Lent.{coded};
+ghost use Rattle.tables.specs.Given.{given};
 ghost use Rattle.layout.specs.Laid.{laid_states, given_code, row, tally, LaidOut};
 
-use tables::Chart;
+use tables::{Chart, ChartTables};
 
 // For each state the first flip-flop and the width of its group, and its code; and how many flip-flops there are.
 #[derive(Clone, Copy)]
@@ -23,76 +24,49 @@ pub struct Layout {
 
 // "A super-state with n sub-states gets the number of significant bits of n - 1: 0 for n = 1." A leaf's group is
 // empty too.
-fn width(n: usize) -> u32
+fn width(n: u16) -> u32
     ensures { result ≡ width n }
 {
-    if n <= 1 {
-        return 0;
-    }
-    64 - usize::leading_zeros(n - 1)
+    u16::BITS - n.saturating_sub(1).leading_zeros()
 }
 
 // How many states are laid out: none where there are more than a chart may have.
-fn laid_states(states: &[u16]) -> usize
-    ensures { (result ≤ 256) × (result ≤ length states.now / 2)
-        × ((c : Tables) → c.states ≡ states.now → result ≡ laid_states c) }
+#[tactic(auto, unfolding(crate::specs::Laid::laid_states))]
+fn laid_states(t: &ChartTables<'_>) -> usize
+    ensures { (result ≤ 256) × (result ≤ state_count (given t.now)) × (result ≡ laid_states (given t.now)) }
 {
-    let n = states.len() / 2;
-    if Chart::STATES < n {
-        return 0;
-    }
-    n
+    let n = t.state_count();
+    if n <= Chart::STATES { n } else { 0 }
 }
 
-// Counts s for its super-state: "State 0 is the root .. and is nobody's sub-state". In tables that break the rules a
-// super-state can be any number, so those that no state has are passed over.
-fn count_one(states: &[u16], s: usize, counts: &mut [u16; 256])
-    requires { (s < 256) × (s < length states.now / 2)
-        × ((c : Tables) → c.states ≡ states.now → counts.old ≡ tally (sub_state c) s) }
-    ensures { (c : Tables) → c.states ≡ states.now
-        → counts.new ≡ tally (sub_state c) (s + 1) }
+// The number of sub-states of each state: "State 0 is the root .. and is nobody's sub-state". In tables that break
+// the rules a super-state can be any number, so those that no state has are passed over.
+fn sub_states_each(t: &ChartTables<'_>) -> [u16; 256]
+    ensures { result ≡ tally (sub_state (given t.now)) (laid_states (given t.now)) }
 {
-    if s == 0 {
-        return;
-    }
-    let a = tables::super_state(states, s);
-    if Chart::STATES <= a {
-        return;
-    }
-    counts[a] += 1;
-}
-
-// The number of sub-states of each state.
-fn sub_states_each(states: &[u16]) -> [u16; 256]
-    ensures { (c : Tables) → c.states ≡ states.now → result ≡ tally (sub_state c) (laid_states c) }
-{
-    let n = laid_states(states);
-    let mut counts = [0u16; 256];
-    let mut s = 0;
-    while s < n {
-        count_one(states, s, &mut counts);
-        s += 1;
+    let mut counts = [0; 256];
+    for s in 1..laid_states(t) {
+        let a = t.super_state(s);
+        if a < Chart::STATES {
+            counts[a] += 1;
+        }
     }
     counts
 }
 
 // "Its initial sub-state has code 0, the others 1, 2, and so on by rising state number.": for each super-state,
-// others has how many of them are below s. The root has no code.
-fn code_one(states: &[u16], s: usize, others: &mut [u16; 256], codes: &mut [u16; 256])
-    requires { (s < 256) × (s < length states.now / 2)
-        × ((c : Tables) → c.states ≡ states.now → (others.old ≡ tally (other_sub_state c) s)
-        × (codes.old ≡ row (given_code c) s)) }
-    ensures { (c : Tables) → c.states ≡ states.now
-        → (others.new ≡ tally (other_sub_state c) (s + 1)) × (codes.new ≡ row (given_code c) (s + 1)) }
+// others has how many of them are below s.
+fn code_one(t: &ChartTables<'_>, s: usize, others: &mut [u16; 256], codes: &mut [u16; 256])
+    requires { (0 < s) × (s < 256) × (s < state_count (given t.now))
+        × (others.old ≡ tally (other_sub_state (given t.now)) s) × (codes.old ≡ row (given_code (given t.now)) s) }
+    ensures { (others.new ≡ tally (other_sub_state (given t.now)) (s + 1))
+        × (codes.new ≡ row (given_code (given t.now)) (s + 1)) }
 {
-    if s == 0 {
-        return;
-    }
-    let a = tables::super_state(states, s);
+    let a = t.super_state(s);
     if Chart::STATES <= a {
         return;
     }
-    if s == tables::initial(states, a) {
+    if s == t.initial(a) {
         codes[s] = 0;
         return;
     }
@@ -100,38 +74,32 @@ fn code_one(states: &[u16], s: usize, others: &mut [u16; 256], codes: &mut [u16;
     codes[s] = others[a];
 }
 
-// The code of each sub-state alone, for those who ask for no group.
-pub fn codes_of(states: &[u16]) -> [u16; 256]
-    ensures { (c : Tables) → c.states ≡ states.now → result ≡ row (given_code c) (laid_states c) }
+// The code of each sub-state alone, for those who ask for no group. The root has no code.
+pub fn codes_of(t: &ChartTables<'_>) -> [u16; 256]
+    ensures { result ≡ row (given_code (given t.now)) (laid_states (given t.now)) }
 {
-    let n = laid_states(states);
-    let mut others = [0u16; 256];
-    let mut codes = [0u16; 256];
-    let mut s = 0;
-    while s < n {
-        code_one(states, s, &mut others, &mut codes);
-        s += 1;
+    let mut others = [0; 256];
+    let mut codes = [0; 256];
+    for s in 1..laid_states(t) {
+        code_one(t, s, &mut others, &mut codes);
     }
     codes
 }
 
 // "Groups stand one after the other by rising super-state number, .. from %MX0."
-pub fn lay_out(states: &[u16]) -> Layout
-    ensures { (c : Tables) → c.states ≡ states.now → LaidOut c result }
+pub fn lay_out(t: &ChartTables<'_>) -> Layout
+    ensures { LaidOut (given t.now) result }
 {
-    let n = laid_states(states);
-    let counts = sub_states_each(states);
-    let code = codes_of(states);
-    let mut first = [0u16; 256];
-    let mut widths = [0u8; 256];
-    let mut total: u32 = 0;
-    let mut a = 0;
-    while a < n {
-        let w = width(counts[a] as usize);
+    let counts = sub_states_each(t);
+    let code = codes_of(t);
+    let mut first = [0; 256];
+    let mut widths = [0; 256];
+    let mut total = 0;
+    for a in 0..laid_states(t) {
+        let w = width(counts[a]);
         first[a] = total as u16;
         widths[a] = w as u8;
         total += w;
-        a += 1;
     }
     Layout {
         first,
@@ -142,61 +110,37 @@ pub fn lay_out(states: &[u16]) -> Layout
 }
 
 // How many flip-flops there are, where nothing else of the layout is asked for.
-pub fn flip_flops(states: &[u16]) -> u32
-    ensures { (c : Tables) → c.states ≡ states.now → result ≡ group_first c (laid_states c) }
+pub fn flip_flops(t: &ChartTables<'_>) -> u32
+    ensures { result ≡ group_first (given t.now) (laid_states (given t.now)) }
 {
-    let n = laid_states(states);
-    let counts = sub_states_each(states);
-    let mut many: u32 = 0;
-    let mut a = 0;
-    while a < n {
-        many += width(counts[a] as usize);
-        a += 1;
+    let counts = sub_states_each(t);
+    let mut many = 0;
+    for n in &counts[..laid_states(t)] {
+        many += width(*n);
     }
     many
 }
 
-// Whether s is a sub-state of a that is not the initial one.
-fn other(states: &[u16], a: usize, s: usize) -> bool
-    ensures { (c : Tables) → c.states ≡ states.now → result ≡ other_sub_state c a s }
+// The sub-state of a with code k, or the number of states where there is none: no Option, since `coded_sub_state` of
+// meaning, of which the theorems speak, is that number.
+pub fn sub_with_code(t: &ChartTables<'_>, a: usize, k: usize) -> usize
+    ensures { result ≡ least (coded (given t.now) a k) 0 (state_count (given t.now)) }
 {
-    if s == tables::initial(states, a) {
-        return false;
-    }
-    tables::sub_state(states, a, s)
-}
-
-// Whether s is the sub-state of a with code k, where a has this many others below s.
-fn coded(states: &[u16], a: usize, k: usize, s: usize, others: usize) -> bool
-    ensures { (c : Tables) → c.states ≡ states.now → others ≡ count (other_sub_state c a) s
-        → result ≡ coded c a k s }
-{
-    if !tables::sub_state(states, a, s) {
-        return false;
-    }
-    if s == tables::initial(states, a) {
-        return k == 0;
-    }
-    if k == 0 {
-        return false;
-    }
-    others == k - 1
-}
-
-// The sub-state of a with code k, or the number of states where there is none.
-pub fn sub_with_code(states: &[u16], a: usize, k: usize) -> usize
-    ensures { (c : Tables) → c.states ≡ states.now → result ≡ least (coded c a k) 0 (state_count c) }
-{
+    let n = t.state_count();
     let mut others = 0;
-    let mut s = 0;
-    while s < states.len() / 2 {
-        if coded(states, a, k, s, others) {
+    for s in 0..n {
+        if !t.sub_state(a, s) {
+            continue;
+        }
+        let code = if s == t.initial(a) {
+            0
+        } else {
+            others += 1;
+            others
+        };
+        if code == k {
             return s;
         }
-        if other(states, a, s) {
-            others += 1;
-        }
-        s += 1;
     }
-    s
+    n
 }

@@ -1,13 +1,12 @@
 -- The small charts that document 01 works by hand, (a) to (h), as one table about the definitions.
 -- proofs/Laws/Cases.antt proves it.
-use Rattle.std.specs.Prelude.{◌≡◌, ℕ, List, [], ◌∷◌, map, ℤ, pos, negsuc}
+use Rattle.std.specs.Prelude.{◌≡◌, ℕ, List, [], ◌∷◌, map, ℤ, pos, negsuc, Ok, Err}
 use Rattle.meaning.specs.Tables.{Tables, preset_steps}
 use Rattle.meaning.specs.Layout.{width, code}
 use Rattle.meaning.specs.Check.{verdict}
 use Rattle.meaning.specs.Machine.{Seen, start_state, trace}
 use Rattle.meaning.specs.History.{history_reading}
 use Rattle.meaning.specs.declared.Refusal.TheVariants as R
-use Rattle.meaning.specs.declared.Verdict.TheVariants.{Accepted, Refused}
 
 -- a row of the moves table with a and b in its first two literal places (0: unused), then the rows rest
 unfoldable pub move : ℕ → ℕ → ℕ → ℤ → ℤ → List ℤ → List ℤ
@@ -66,7 +65,7 @@ unfoldable pub leaves_of : List Seen → List ℕ
 leaves_of = map (λ s. s.leaf)
 
 pub record Cases : Type 0 where
-  pub a_accepted : verdict lamp ≡ Accepted
+  pub a_accepted : verdict lamp ≡ (Ok tt)
   pub a : trace lamp (start_state lamp) (1 ∷ 2 ∷ 2 ∷ 2 ∷ 2 ∷ [])
       ≡ seen_as 2 1 ∷ seen_as 2 1 ∷ seen_as 2 1 ∷ seen_as 2 1 ∷ seen_as 1 0 ∷ []
   pub a_read : history_reading lamp (1 ∷ 2 ∷ 2 ∷ 2 ∷ 2 ∷ [])
@@ -74,10 +73,10 @@ pub record Cases : Type 0 where
   pub b : map width (1 ∷ 2 ∷ 3 ∷ 4 ∷ 5 ∷ 8 ∷ 9 ∷ []) ≡ 0 ∷ 1 ∷ 2 ∷ 2 ∷ 3 ∷ 3 ∷ 4 ∷ []
   pub c : map (code three) (1 ∷ 2 ∷ 3 ∷ []) ≡ 1 ∷ 0 ∷ 2 ∷ []
   pub d : map (preset_steps three) (1 ∷ 2 ∷ 3 ∷ 4 ∷ []) ≡ 2 ∷ 3 ∷ 3 ∷ 4 ∷ []
-  pub e_accepted : verdict returning ≡ Accepted
+  pub e_accepted : verdict returning ≡ (Ok tt)
   pub e : leaves_of (trace returning (start_state returning) (1 ∷ 2 ∷ 0 ∷ [])) ≡ 4 ∷ 2 ∷ 4 ∷ []
   pub e_read : leaves_of (history_reading returning (1 ∷ 2 ∷ 0 ∷ [])) ≡ 4 ∷ 2 ∷ 4 ∷ []
   pub f : leaves_of (trace returning (start_state returning) (2 ∷ 0 ∷ [])) ≡ 2 ∷ 3 ∷ []
   pub f_read : leaves_of (history_reading returning (2 ∷ 0 ∷ [])) ≡ 2 ∷ 3 ∷ []
-  pub g : verdict overlapping ≡ Refused (R.Overlap 1)
-  pub h : verdict (nested (move 1 2 0 (negsuc 32767) (pos 0) [])) ≡ Refused (R.Literal 0)
+  pub g : verdict overlapping ≡ Err (R.Overlap 1)
+  pub h : verdict (nested (move 1 2 0 (negsuc 32767) (pos 0) [])) ≡ Err (R.Literal 0)

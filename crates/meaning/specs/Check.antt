@@ -1,7 +1,9 @@
 -- The verdict of the tables: an ordered list of checks, each over all its rows before the next begins. The tests
 -- here are for computing; what each check is about stands in document 01's words in Rules.antt, and
 -- proofs/Laws/Rules.antt proves that each test passes exactly where its rule is kept (OVERLAP: where LITERAL passes).
-use Rattle.std.specs.Prelude.{ℕ, suc, ◌-◌, ◌%◌, Bool, true, false, ◌&&◌, ◌||◌, not, cond, List, [], ◌∷◌, length, leb}
+use Rattle.meaning.specs.Refusals.{Verdict}
+use Rattle.std.specs.Prelude.{ℕ, suc, ◌-◌, ◌%◌, Bool, true, false, ◌&&◌, ◌||◌}
+use Rattle.std.specs.Prelude.{not, cond, List, [], ◌∷◌, length, leb, Ok, Err}
 use Rattle.std.specs.Prelude.{ltb, eqb, ℤ, pos, negsuc, nat_abs}
 use Rattle.meaning.specs.Rows.{least, some, every}
 use Rattle.meaning.specs.Tables.{Tables, most_states, most_depth, most_moves, most_inputs, most_outputs}
@@ -19,8 +21,6 @@ use Rattle.meaning.specs.declared.Kind.{Kind}
 use Rattle.meaning.specs.declared.Kind.TheVariants.{Unused, Input, Timer, Unknown}
 use Rattle.meaning.specs.declared.Refusal.{Refusal}
 use Rattle.meaning.specs.declared.Refusal.TheVariants as R
-use Rattle.meaning.specs.declared.Verdict.{Verdict}
-use Rattle.meaning.specs.declared.Verdict.TheVariants.{Accepted, Refused}
 
 -- what a check gives at a failing row, how many rows it has, and which of them pass
 pub record Check : Type 0 where
@@ -33,9 +33,9 @@ unfoldable pub first_failing : Check → ℕ
 first_failing k = least (λ i. not (k.passes i)) 0 k.rows
 
 unfoldable pub verdict_of : List Check → Verdict
-verdict_of [] = Accepted
+verdict_of [] = (Ok tt)
 verdict_of (k ∷ ks) =
-    elim (eqb (first_failing k) k.rows) [ true ↦ verdict_of ks | false ↦ Refused (k.refusal (first_failing k)) ]
+    elim (eqb (first_failing k) k.rows) [ true ↦ verdict_of ks | false ↦ Err (k.refusal (first_failing k)) ]
 
 unfoldable pub size_passes : Tables → Bool
 size_passes c =

@@ -1,9 +1,15 @@
--- Document 01's refusals: the number and the place of each.
-use Rattle.std.specs.Prelude.{ℕ}
+-- What the calls answer, and document 01's refusals: the number and the place of each.
+use Rattle.std.specs.Prelude.{ℕ, ⊤, Result, Ok, Err}
 use Rattle.meaning.specs.declared.Refusal.{Refusal}
 use Rattle.meaning.specs.declared.Refusal.TheVariants as R
-use Rattle.meaning.specs.declared.Verdict.{Verdict}
-use Rattle.meaning.specs.declared.Verdict.TheVariants.{Accepted, Refused}
+
+-- what the check of the tables answers: accepted, or why not
+abbrev pub Verdict : Type 0
+Verdict = Result ⊤ Refusal
+
+-- what the other calls answer: a number, or why there is none
+abbrev pub Answer : Type 0
+Answer = Result ℕ Refusal
 
 abbrev pub number_of : Refusal → ℕ
 number_of R.Size = 1
@@ -45,9 +51,9 @@ place_of (R.Field p) = p
 
 -- the first row of the table: 0, ACCEPTED, "none of the below", 0
 abbrev pub verdict_number : Verdict → ℕ
-verdict_number Accepted = 0
-verdict_number (Refused r) = number_of r
+verdict_number (Ok tt) = 0
+verdict_number (Err r) = number_of r
 
 abbrev pub verdict_place : Verdict → ℕ
-verdict_place Accepted = 0
-verdict_place (Refused r) = place_of r
+verdict_place (Ok tt) = 0
+verdict_place (Err r) = place_of r

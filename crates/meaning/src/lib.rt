@@ -26,20 +26,6 @@ pub enum Refusal {
     Field(usize),
 }
 
-// What the check of the tables answers.
-#[derive(Clone, Copy)]
-pub enum Verdict {
-    Accepted,
-    Refused(Refusal),
-}
-
-// What a run answers: how many scans it did, or why none.
-#[derive(Clone, Copy)]
-pub enum Ran {
-    Done(usize),
-    Refused(Refusal),
-}
-
 // What a literal of some size stands for: inputs and timers count from 1.
 #[derive(Clone, Copy)]
 pub enum Kind {

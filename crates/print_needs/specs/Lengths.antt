@@ -1,5 +1,6 @@
 -- How long a page is, so that one buffer is room enough for every page.
-use Rattle.std.specs.Prelude.{◌≡◌, refl, Bool, true, false, cond, ◌&&◌, ◌||◌, eqb, nat_abs, length}
+use Rattle.meaning.specs.Refusals.{Verdict}
+use Rattle.std.specs.Prelude.{◌≡◌, refl, Bool, true, false, cond, ◌&&◌, ◌||◌, eqb, nat_abs, length, Ok, Err}
 use Rattle.std.proofs.Common.{ap, ◌∙◌, eq-eqb, ne_eqb}
 use mathlib.Core.List.{List, [], ◌∷◌, ◌++◌, flat_map, append-nil}
 use Prim.Native.Nat.{ℕ, zero, suc, ◌+◌, ◌*◌, ◌/◌, ◌%◌, ◌≤◌, ◌<◌}
@@ -21,8 +22,6 @@ use Rattle.format.specs.Text.{bytes, decimal, operand_text, line}
 use Rattle.format.proofs.Laws.Decimals.{decimal_few, decimal_small, decimal_last}
 use Rattle.format.specs.Printed.{refusal_line}
 use Rattle.format.specs.NeedsTable.{names_of, thing_names, spaced, things_text, upward, needs_line, needs_table, overlap_line, needs_page}
-use Rattle.meaning.specs.declared.Verdict.{Verdict}
-use Rattle.meaning.specs.declared.Verdict.TheVariants.{Accepted, Refused}
 use Rattle.print_lines.specs.Results.{refusal_few}
 use Rattle.print_needs.specs.Names.{apart, names_more, names_none}
 use Rattle.print_needs.specs.Lines.{cell_of, sets_of, way_of, pair_of, head_of, needs_line_lem, overlap_line_lem}
@@ -238,8 +237,8 @@ pub needs_page_few : (c : Tables) → length (needs_page c (verdict c)) ≤ most
 needs_page_few c = by (verdict c) refl
   where
     by : (v : Verdict) → verdict c ≡ v → length (needs_page c v) ≤ most_needs
-    by Accepted e = unfold needs_page line in (omega (arith, length-append (needs_table c) (line (bytes "ACCEPTED")), table_few c (accepted_passed c e).size.few_moves))
-    by (Refused r) e = elim (dec_le 9 (number_of r)) [
+    by (Ok tt) e = unfold needs_page line in (omega (arith, length-append (needs_table c) (line (bytes "ACCEPTED")), table_few c (accepted_passed c e).size.few_moves))
+    by (Err r) e = elim (dec_le 9 (number_of r)) [
       | yes h ↦ elim (dec_le (number_of r) 11) [
         | yes g ↦ elim (ℕ_discrete (number_of r) 10) [
           | yes z ↦ rw (← page_overlap c r z) (omega (

@@ -1,10 +1,10 @@
 -- The lines of a page by their parts, as the writers write them.
-use Rattle.std.specs.Prelude.{◌≡◌, refl, ℕ, suc, ◌+◌, ℤ}
+use Rattle.std.specs.Prelude.{◌≡◌, refl, ℕ, suc, ◌+◌}
 use Rattle.std.proofs.Common.{ap, ◌∙◌, arith}
 use mathlib.Core.List.{List, [], ◌∷◌, ◌++◌, flat_map, append_assoc, append-nil}
 use Rattle.meaning.specs.Rows.{table}
 use Rattle.meaning.proofs.Laws.Rows.{flat_map_append, table_snoc}
-use Rattle.meaning.specs.Tables.{Tables, timer_count, source, target, super_state}
+use Rattle.meaning.specs.Tables.{Tables, source, target, super_state}
 use Rattle.meaning.specs.Hierarchy.{up, depth}
 use Rattle.meaning.specs.Needs as N
 use Rattle.meaning.specs.Check.{earlier}
@@ -12,13 +12,6 @@ use Rattle.format.specs.Text.{bytes, decimal, line}
 use Rattle.format.specs.Printed.{comma}
 use Rattle.format.specs.NeedsTable.{spaced, things_text, upward, needs_line, overlap_line}
 use Rattle.print_needs.specs.Names.{apart}
-
--- what the writers of the table are lent of the tables
-pub record MovesLent (c : Tables) (n d : ℕ) (ss : List ℕ) (ms : List ℤ) : Type 0 where
-  pub inputs : c.inputs ≡ n
-  pub timers : timer_count c ≡ d
-  pub states : c.states ≡ ss
-  pub moves : c.moves ≡ ms
 
 -- ---- the parts
 

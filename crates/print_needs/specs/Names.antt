@@ -10,7 +10,7 @@ use Rattle.meaning.specs.Tables.{most_inputs, most_timers}
 use Rattle.meaning.specs.Literals.{input_on}
 use Rattle.meaning.specs.Needs as N
 use Rattle.meaning.specs.declared.Operand.TheVariants.{Ix, TimerQ}
-use Rattle.format.specs.Text.{operand_text}
+use Rattle.format.specs.Text.{bytes, decimal, operand_text}
 use Rattle.format.specs.NeedsTable.{names_of, thing_names, spaced, things_text}
 use Rattle.write_lines.specs.Put.{BytesPut, put_put, put_none}
 use Rattle.check_needs.specs.declared.ThingWords.{ThingWords}
@@ -82,11 +82,23 @@ pub names_more : (name : ℕ → List ℕ) (f : ℕ → Bool) (n : ℕ) → name
 unfolding names_of
 names_more name f n = let e : 1 + n ≡ suc n = omega arith in rows_snoc (λ k. cond (f k) (name k ∷ []) []) 1 n ∙ rw e
 
+-- the name alone of a number that follows
+pub names_next : (name : ℕ → List ℕ) (f : ℕ → Bool) (n : ℕ) → f (suc n) ≡ true → names_of name f (suc n) ≡ names_of name f n ++ (name (suc n) ∷ [])
+names_next name f n e = names_more name f n ∙ rw e
+
+-- no name of a number that is not there
+pub names_kept : (name : ℕ → List ℕ) (f : ℕ → Bool) (n : ℕ) → f (suc n) ≡ false → names_of name f (suc n) ≡ names_of name f n
+names_kept name f n e = names_more name f n ∙ rw e (append-nil (names_of name f n))
+
 pub names_none : (name : ℕ → List ℕ) (f : ℕ → Bool) → names_of name f 0 ≡ []
 unfolding names_of table flat_map
 names_none name f = refl
 
 -- ---- a set
+
+-- the same names, spelt in another way
+pub names_spelt : (v w : ℕ → List ℕ) (f : ℕ → Bool) (n : ℕ) → ((k : ℕ) → v k ≡ w k) → names_of v f n ≡ names_of w f n
+names_spelt v w f n e = ap (λ name. names_of name f n) (λ i k. e k i)
 
 pub names_same : (name : ℕ → List ℕ) (f g : ℕ → Bool) (n : ℕ) → ((k : ℕ) → 1 ≤ k → k ≤ n → f k ≡ g k) → names_of name f n ≡ names_of name g n
 names_same name f g zero h = names_none name f ∙ sym (names_none name g)
@@ -110,10 +122,26 @@ spaced_none (w ∷ ws) e = absurd (true≢false e)
 pub record SetPut (l : List ℕ) (at : ℕ) (w : ThingWords) (m : List ℕ) (r : NameCursor) : Type 0 where
   pub names : NamesPut l (record { at = at; some = false }) (thing_names (set_of w)) m r
 
-pub set_put : {l m n : List ℕ} {at : ℕ} {w : ThingWords} {q r : NameCursor} → NamesPut l (record { at = at; some = false }) (names_of (λ n. operand_text (Ix n)) (input_on w.inputs) most_inputs) m q
-    → NamesPut m q (names_of (λ t. operand_text (TimerQ t)) (input_on w.timers) most_timers) n r → SetPut l at w n r
+-- a number between a head and a tail
+abbrev pub between_parts : List ℕ → List ℕ → ℕ → List ℕ
+between_parts head tail n = head ++ (decimal n ++ tail)
+
+input_named : (n : ℕ) → between_parts (bytes "%IX") [] n ≡ operand_text (Ix n)
+unfolding operand_text
+input_named n = ap (λ l. bytes "%IX" ++ l) (append-nil (decimal n))
+
+timer_named : (n : ℕ) → between_parts (bytes "T") (bytes ".Q") n ≡ operand_text (TimerQ n)
+unfolding operand_text
+timer_named n = refl
+
+pub set_put : {l m n : List ℕ} {at : ℕ} {w : ThingWords} {q r : NameCursor}
+    → NamesPut l (record { at = at; some = false }) (names_of (between_parts (bytes "%IX") []) (input_on w.inputs) most_inputs) m q
+    → NamesPut m q (names_of (between_parts (bytes "T") (bytes ".Q")) (input_on w.timers) most_timers) n r → SetPut l at w n r
 unfolding thing_names
-set_put a b = record { names = names_names a b }
+set_put {w = w} a b =
+    let e = names_spelt (between_parts (bytes "%IX") []) (λ n. operand_text (Ix n)) (input_on w.inputs) most_inputs input_named in
+    let f = names_spelt (between_parts (bytes "T") (bytes ".Q")) (λ t. operand_text (TimerQ t)) (input_on w.timers) most_timers timer_named in
+    record { names = rw (← e, ← f) (names_names a b) }
 
 pub things_some : {l m : List ℕ} {at : ℕ} {w : ThingWords} {r : NameCursor} → SetPut l at w m r → r.some ≡ true → (s : N.Things) → InWords w s → BytesPut l at (things_text s) m r.at
 unfolding things_text

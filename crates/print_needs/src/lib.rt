@@ -2,33 +2,26 @@
 // and a setting, and the verdict.
 #![tactic(auto)]
 
-ghost use Rattle.std.specs.Prelude.{◌≡◌, true, cond, [], ◌∷◌};
-ghost use Rattle.meaning.specs.Tables.{Tables, most_inputs, most_timers};
+ghost use Rattle.std.specs.Prelude.{◌≡◌, ◌≤◌, true, [], ◌∷◌, ◌++◌, Err};
 ghost use Rattle.meaning.specs.Literals.{input_on};
 ghost use Rattle.meaning.specs.Needs as N;
 ghost use Rattle.meaning.specs.Check.{literal_passes, verdict};
-ghost use Rattle.meaning.specs.declared.Operand.TheVariants.{Ix, TimerQ};
-ghost use Rattle.meaning.specs.declared.Verdict.TheVariants.{Refused};
-ghost use Rattle.format.specs.Text.{operand_text};
+ghost use Rattle.format.specs.Text.{decimal};
 ghost use Rattle.format.specs.NeedsTable.{names_of, things_text, upward, needs_line, needs_table, needs_page};
-ghost use Rattle.tables.specs.Given.{tables_of};
+ghost use Rattle.tables.specs.Given.{given};
 ghost use Rattle.check_needs.specs.Words.{InWords};
 ghost use Rattle.check_literals.specs.Places.{LiteralsPass};
 ghost use Rattle.check_witness.specs.Shown.{Witnessed};
 ghost use Rattle.write_lines.specs.Put.{BytesPut};
 ghost use Rattle.print_needs.specs.Names.{NamesPut, gap};
-ghost use Rattle.print_needs.specs.Lines.{MovesLent, cell_of, sets_of, way_of, pair_of, overlap_of};
+ghost use Rattle.print_needs.specs.Lines.{cell_of, sets_of, way_of, pair_of, overlap_of};
 ghost use Rattle.print_needs.specs.Page.{NeedsPrintedTo};
 
 use check_needs::ThingWords;
 use check_witness::Witness;
-use meaning::{Refusal, Verdict};
+use meaning::Refusal;
 use print_lines::Printed;
-use tables::Chart;
-
-const COMMA: u8 = 44;
-
-const LF: u8 = 10;
+use tables::ChartTables;
 
 // ---- a set by its names
 
@@ -49,53 +42,35 @@ fn put_gap(out: &mut [u8], p: NameCursor) -> usize
     p.at
 }
 
-fn put_input(out: &mut [u8], p: NameCursor, on: bool, n: u16) -> NameCursor
-    ensures { NamesPut out.old p (cond on (operand_text (Ix n) ∷ []) []) out.new result }
+// The name of a thing: its number between a head and a tail.
+fn put_name(out: &mut [u8], p: NameCursor, head: &[u8], n: u16, tail: &[u8]) -> NameCursor
+    ensures { NamesPut out.old p ((head.now ++ (decimal n ++ tail.now)) ∷ []) out.new result }
 {
-    if !on {
-        return p;
-    }
     let q = put_gap(out, p);
-    let s = write_lines::put_bytes(out, q, b"%IX");
-    let t = write_lines::put_decimal(out, s, n as u64);
-    NameCursor { at: t, some: true }
+    let s = write_lines::put_bytes(out, q, head);
+    let t = write_lines::put_decimal(out, s, u64::from(n));
+    let at = write_lines::put_bytes(out, t, tail);
+    NameCursor { at, some: true }
 }
 
-fn put_timer(out: &mut [u8], p: NameCursor, on: bool, n: u16) -> NameCursor
-    ensures { NamesPut out.old p (cond on (operand_text (TimerQ n) ∷ []) []) out.new result }
-{
-    if !on {
-        return p;
-    }
-    let q = put_gap(out, p);
-    let s = write_lines::put(out, q, b'T');
-    let t = write_lines::put_decimal(out, s, n as u64);
-    let u = write_lines::put_bytes(out, t, b".Q");
-    NameCursor { at: u, some: true }
-}
-
-fn put_inputs(out: &mut [u8], at: NameCursor, w: u64) -> NameCursor
-    ensures { NamesPut out.old at (names_of (λ n. operand_text (Ix n)) (input_on w) most_inputs)
-        out.new result }
+// The names of the numbers that a word has, up to the largest that there may be.
+fn put_names(
+    out: &mut [u8],
+    at: NameCursor,
+    word: u64,
+    most: u16,
+    head: &[u8],
+    tail: &[u8],
+) -> NameCursor
+    requires { most ≤ 64 }
+    ensures { NamesPut out.old at
+        (names_of (λ n. head.now ++ (decimal n ++ tail.now)) (input_on word) most) out.new result }
 {
     let mut p = at;
-    let mut n = 0;
-    while n < 64 {
-        p = put_input(out, p, (w >> n) % 2 == 1, n + 1);
-        n += 1;
-    }
-    p
-}
-
-fn put_timers(out: &mut [u8], at: NameCursor, w: u64) -> NameCursor
-    ensures { NamesPut out.old at (names_of (λ t. operand_text (TimerQ t)) (input_on w) most_timers)
-        out.new result }
-{
-    let mut p = at;
-    let mut n = 0;
-    while n < 32 {
-        p = put_timer(out, p, (w >> n) % 2 == 1, n + 1);
-        n += 1;
+    for n in 0..most {
+        if (word >> n) % 2 == 1 {
+            p = put_name(out, p, head, n + 1, tail);
+        }
     }
     p
 }
@@ -105,15 +80,9 @@ fn put_things(out: &mut [u8], at: usize, s: ThingWords) -> usize
     ensures { (S : N.Things) → InWords s S
         → BytesPut out.old at (things_text S) out.new result }
 {
-    let p = put_inputs(
-        out,
-        NameCursor {
-            at: at,
-            some: false,
-        },
-        s.inputs,
-    );
-    let q = put_timers(out, p, s.timers);
+    let none = NameCursor { at, some: false };
+    let p = put_names(out, none, s.inputs, 64, b"%IX", b"");
+    let q = put_names(out, p, s.timers, 32, b"T", b".Q");
     if q.some {
         return q.at;
     }
@@ -127,7 +96,7 @@ fn put_cell(out: &mut [u8], at: usize, n: usize) -> usize
     ensures { BytesPut out.old at (cell_of n) out.new result }
 {
     let p = write_lines::put_decimal(out, at, n as u64);
-    write_lines::put(out, p, COMMA)
+    write_lines::put(out, p, b',')
 }
 
 // The last two fields of a line: what is needed on, and what is needed off.
@@ -136,38 +105,33 @@ fn put_sets(out: &mut [u8], at: usize, on: ThingWords, off: ThingWords) -> usize
         → BytesPut out.old at (sets_of A B) out.new result }
 {
     let p = put_things(out, at, on);
-    let q = write_lines::put(out, p, COMMA);
+    let q = write_lines::put(out, p, b',');
     let s = put_things(out, q, off);
-    write_lines::put(out, s, LF)
+    write_lines::put(out, s, b'\n')
 }
 
 // A state and those above it, up to the root.
-fn put_upward(out: &mut [u8], at: usize, states: &[u16], s: usize) -> usize
-    ensures { (c : Tables) → c.states ≡ states.now
-        → BytesPut out.old at (upward c s) out.new result }
+fn put_upward(out: &mut [u8], at: usize, t: &ChartTables<'_>, s: usize) -> usize
+    ensures { BytesPut out.old at (upward (given t.now) s) out.new result }
 {
-    let levels = tables::depth(states, s);
     let mut p = write_lines::put_decimal(out, at, s as u64);
-    let mut t = s;
-    let mut k = 0;
-    while k < levels {
-        t = tables::super_state(states, t);
+    let mut above = s;
+    for _k in 0..t.depth(s) {
+        above = t.super_state(above);
         p = write_lines::put(out, p, b' ');
-        p = write_lines::put_decimal(out, p, t as u64);
-        k += 1;
+        p = write_lines::put_decimal(out, p, above as u64);
     }
     p
 }
 
 // The number of move i, its source and those above it, its target.
-fn put_way(out: &mut [u8], at: usize, states: &[u16], moves: &[i16], i: usize) -> usize
-    ensures { (c : Tables) → c.states ≡ states.now → c.moves ≡ moves.now
-        → BytesPut out.old at (way_of c i) out.new result }
+fn put_way(out: &mut [u8], at: usize, t: &ChartTables<'_>, i: usize) -> usize
+    ensures { BytesPut out.old at (way_of (given t.now) i) out.new result }
 {
     let p = put_cell(out, at, i);
-    let q = put_upward(out, p, states, tables::source(moves, i));
-    let s = write_lines::put(out, q, COMMA);
-    put_cell(out, s, tables::target(moves, i))
+    let q = put_upward(out, p, t, t.source(i));
+    let s = write_lines::put(out, q, b',');
+    put_cell(out, s, t.target(i))
 }
 
 // The first field of the line of an OVERLAP.
@@ -180,139 +144,89 @@ fn put_pair(out: &mut [u8], at: usize, earlier: usize, later: usize) -> usize
     put_cell(out, s, later)
 }
 
-// Two moves that overlap, the earlier first; a state in which both are enabled; what must be on for that, and off.
-fn put_overlap(
-    out: &mut [u8],
-    at: usize,
-    earlier: usize,
-    later: usize,
-    state: usize,
-    on: ThingWords,
-    off: ThingWords,
-) -> usize
-    ensures { (A B : N.Things) → InWords on A → InWords off B
-        → BytesPut out.old at (overlap_of earlier later state A B) out.new result }
+// Of the witness for an OVERLAP: two moves that overlap, the earlier first; a state in which both are enabled; what
+// must be on for that, and off.
+fn put_overlap(out: &mut [u8], at: usize, later: usize, w: &Witness) -> usize
+    ensures { (A B : N.Things) → InWords w.now.on A → InWords w.now.off B
+        → BytesPut out.old at (overlap_of w.now.earlier later w.now.state A B) out.new result }
 {
-    let p = put_pair(out, at, earlier, later);
-    let q = put_cell(out, p, state);
+    let p = put_pair(out, at, w.earlier, later);
+    let q = put_cell(out, p, w.state);
     let s = write_lines::put_bytes(out, q, b"-,");
-    put_sets(out, s, on, off)
+    put_sets(out, s, w.on, w.off)
 }
 
-// The line of move i.
-fn put_move(
-    out: &mut [u8],
-    at: usize,
-    inputs: u32,
-    timers: usize,
-    states: &[u16],
-    moves: &[i16],
-    i: usize,
-) -> usize
-    ensures { (c : Tables) → MovesLent c inputs timers states.now moves.now
-        → literal_passes c i ≡ true → BytesPut out.old at (needs_line c i) out.new result }
+// The line of move i. Of a move that breaks a rule of literals it would be the first fields alone, but the table is of
+// charts that have none.
+fn put_move(out: &mut [u8], at: usize, t: &ChartTables<'_>, i: usize) -> usize
+    ensures { literal_passes (given t.now) i ≡ true
+        → BytesPut out.old at (needs_line (given t.now) i) out.new result }
 {
-    let a = check_literals::needs_of(inputs, timers, moves, i);
-    let p = put_way(out, at, states, moves, i);
-    put_sets(out, p, a.needs.on, a.needs.off)
+    let p = put_way(out, at, t, i);
+    match check_literals::needs_of(t, i) {
+        Some(needs) => put_sets(out, p, needs.on, needs.off),
+        None => p,
+    }
 }
 
 // A line a move, below a line of the fields' names.
-fn put_table(
-    out: &mut [u8],
-    at: usize,
-    inputs: u32,
-    timers: usize,
-    states: &[u16],
-    moves: &[i16],
-) -> usize
-    ensures { (c : Tables) → MovesLent c inputs timers states.now moves.now
-        → LiteralsPass c → BytesPut out.old at (needs_table c) out.new result }
+fn put_table(out: &mut [u8], at: usize, t: &ChartTables<'_>) -> usize
+    ensures { LiteralsPass (given t.now)
+        → BytesPut out.old at (needs_table (given t.now)) out.new result }
 {
     let mut p = write_lines::put_bytes(
         out,
         at,
         b"move,source and above,target,needs on,needs off\n",
     );
-    let mut i = 0;
-    while i < moves.len() / Chart::MOVE_ROW {
-        p = put_move(out, p, inputs, timers, states, moves, i);
-        i += 1;
+    for i in 0..t.move_count() {
+        p = put_move(out, p, t, i);
     }
     p
 }
 
 // ---- the page
 
-// The page of a refusal: from 9 to 11 what the moves need is known, and 10 is the OVERLAP.
-fn put_refused(
-    out: &mut [u8],
-    inputs: u32,
-    timers: usize,
-    states: &[u16],
-    moves: &[i16],
-    w: Witness,
-    r: Refusal,
-) -> usize
-    ensures { (c : Tables) → MovesLent c inputs timers states.now moves.now
-        → Witnessed c w → verdict c ≡ Refused r
-        → BytesPut out.old 0 (needs_page c (Refused r)) out.new result }
+// The page of a refusal: from IDLE TIMER to FLIP-FLOPS what the moves need is known.
+fn put_refused(out: &mut [u8], t: &ChartTables<'_>, w: &Witness, r: Refusal) -> usize
+    ensures { Witnessed (given t.now) w.now → verdict (given t.now) ≡ Err r
+        → BytesPut out.old 0 (needs_page (given t.now) (Err r)) out.new result }
 {
-    let n = meaning::number(r);
-    if n < 9 {
-        return print_lines::put_refusal(out, 0, r);
+    match r {
+        Refusal::IdleTimer(_) | Refusal::FlipFlops => {
+            let p = put_table(out, 0, t);
+            print_lines::put_refusal(out, p, r)
+        }
+        Refusal::Overlap(later) => {
+            let p = put_table(out, 0, t);
+            let q = put_overlap(out, p, later, w);
+            print_lines::put_refusal(out, q, r)
+        }
+        _ => print_lines::put_refusal(out, 0, r),
     }
-    if 11 < n {
-        return print_lines::put_refusal(out, 0, r);
-    }
-    let p = put_table(out, 0, inputs, timers, states, moves);
-    if n != 10 {
-        return print_lines::put_refusal(out, p, r);
-    }
-    let q = put_overlap(out, p, w.earlier, meaning::place(r), w.state, w.on, w.off);
-    print_lines::put_refusal(out, q, r)
 }
 
 // The last line is the verdict.
-fn put_page(
-    out: &mut [u8],
-    inputs: u32,
-    timers: usize,
-    states: &[u16],
-    moves: &[i16],
-    w: Witness,
-    v: Verdict,
-) -> usize
-    ensures { (c : Tables) → MovesLent c inputs timers states.now moves.now
-        → Witnessed c w → verdict c ≡ v → BytesPut out.old 0 (needs_page c v) out.new result }
+fn put_page(out: &mut [u8], t: &ChartTables<'_>, w: &Witness) -> usize
+    ensures { Witnessed (given t.now) w.now → verdict (given t.now) ≡ w.now.verdict
+        → BytesPut out.old 0 (needs_page (given t.now) w.now.verdict) out.new result }
 {
-    match v {
-        Verdict::Accepted => {
-            let p = put_table(out, 0, inputs, timers, states, moves);
+    match w.verdict {
+        Ok(()) => {
+            let p = put_table(out, 0, t);
             write_lines::put_bytes(out, p, b"ACCEPTED\n")
         }
-        Verdict::Refused(r) => put_refused(out, inputs, timers, states, moves, w, r),
+        Err(r) => put_refused(out, t, w, r),
     }
 }
 
 // What the moves need, whether the tables are accepted, and why they are not: for any tables at all.
-pub fn print_needs(
-    chart: Chart,
-    states: &[u16],
-    moves: &[i16],
-    presets: &[u32],
-    timer_pairs: &[u16],
-    output_pairs: &[u16],
-    out: &mut [u8],
-) -> Printed
-    ensures { NeedsPrintedTo (tables_of chart states.now moves.now presets.now
-        timer_pairs.now output_pairs.now) out.old result out.new }
+pub fn print_needs(t: &ChartTables<'_>, out: &mut [u8]) -> Printed
+    ensures { NeedsPrintedTo (given t.now) out.old result out.new }
 {
-    let w = check_witness::check(chart, states, moves, presets, timer_pairs, output_pairs);
-    let v = w.verdict;
-    let n = put_page(out, chart.inputs, presets.len(), states, moves, w, v);
+    let w = check_witness::check(t);
     Printed {
-        length: n,
-        verdict: v,
+        length: put_page(out, t, &w),
+        verdict: w.verdict,
     }
 }

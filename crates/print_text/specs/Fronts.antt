@@ -1,5 +1,5 @@
 -- A table with more rows than are kept is SIZE, and so is its front: the tables that are held print what the files' do.
-use Rattle.std.specs.Prelude.{◌≡◌, refl, ℕ, ◌≤◌, ◌<◌, Bool, true, false, List, length, take}
+use Rattle.std.specs.Prelude.{◌≡◌, refl, ℕ, ◌≤◌, ◌<◌, Bool, true, false, List, length, take, Err}
 use Rattle.std.proofs.Common.{sym, ap, ◌∙◌, arith, length-take, take_all}
 use Rattle.meaning.specs.Rows.{least}
 use Rattle.meaning.specs.Tables.{Tables, state_count, move_count, timer_count, pair_count}
@@ -7,7 +7,6 @@ use Rattle.meaning.specs.Rules.{SizeRule}
 use Rattle.meaning.proofs.Laws.Rules.{size_tells}
 use Rattle.meaning.specs.Check.{checks, first_failing, verdict_of, verdict, size_passes}
 use Rattle.meaning.specs.declared.Refusal.TheVariants as R
-use Rattle.meaning.specs.declared.Verdict.TheVariants.{Refused}
 use Rattle.format.specs.NeedsTable.{needs_page, needs_known}
 use Rattle.print_text.specs.declared.PageKind.{PageKind}
 use Rattle.print_text.specs.declared.PageKind.TheVariants.{Text, Needs}
@@ -66,13 +65,13 @@ same_tables k c f g = λ i. record {
   output_pairs = (f.output_pairs ∙ take_all 4098 c.output_pairs (omega (arith, g.output_pairs))) i;
 }
 
-size_refused : (page : PageKind) (c : Tables) → size_passes c ≡ false → page_verdict page c ≡ Refused R.Size
+size_refused : (page : PageKind) (c : Tables) → size_passes c ≡ false → page_verdict page c ≡ Err R.Size
 unfolding page_verdict verdict checks verdict_of first_failing least
 size_refused Text c e = rw e
 size_refused Needs c e = rw e
 
 -- SIZE is one line, whatever the tables
-size_line : (page : PageKind) (k c : Tables) (xs : List ℕ) → printed_of page k xs (Refused R.Size) ≡ printed_of page c xs (Refused R.Size)
+size_line : (page : PageKind) (k c : Tables) (xs : List ℕ) → printed_of page k xs (Err R.Size) ≡ printed_of page c xs (Err R.Size)
 unfolding printed_of needs_page needs_known
 size_line Text k c xs = refl
 size_line Needs k c xs = refl

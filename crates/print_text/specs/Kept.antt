@@ -1,5 +1,6 @@
 -- What a buffer keeps of the numbers of a file that passes.
-use Rattle.std.specs.Prelude.{◌≡◌, refl, ℕ, suc, ◌+◌, ◌*◌, ◌%◌, ◌≤◌, ◌<◌, true, not, length, get_or, take, drop, leb, eqb}
+use Rattle.meaning.specs.Refusals.{Answer}
+use Rattle.std.specs.Prelude.{◌≡◌, refl, ℕ, suc, ◌+◌, ◌*◌, ◌%◌, ◌≤◌, ◌<◌, true, not, length, get_or, take, drop, leb, eqb, Ok, Err}
 use Rattle.std.proofs.Common.{sym, ◌∙◌, inl, inr, arith, mul-zero, mul-suc, length-append, length-take, take_all, take_at, eqb-true, leb-true}
 use Rattle.std.proofs.Math.Path.{ap}
 use Rattle.std.proofs.Math.Decide.{dec_le}
@@ -13,8 +14,6 @@ use Rattle.meaning.proofs.Laws.Rows.{which, and_l, and_r, least_before}
 use Rattle.meaning.specs.Check.{Check, first_failing}
 use Rattle.format.specs.Records.{Column, records, fields, field_value, record_passes, numbers}
 use Rattle.format.specs.Printed.{record_at, file_check}
-use Rattle.csv_records.specs.declared.RecordsAnswer.{RecordsAnswer}
-use Rattle.csv_records.specs.declared.RecordsAnswer.TheVariants as A
 use Rattle.csv_records.specs.Fields.{stored_number}
 use Rattle.csv_records.specs.Reading.{answered}
 use Rattle.csv_records.specs.Files.{Read}
@@ -50,11 +49,11 @@ pub rows_pass : (k : Check) → eqb (first_failing k) k.rows ≡ true → (i : �
 unfolding first_failing
 rows_pass k e i h = not-false (k.passes i) (least_before (λ j. not (k.passes j)) 0 k.rows i (omega arith) (omega (arith, eqb-true (first_failing k) k.rows e)))
 
-pub answered_rows : (k : Check) (m n : ℕ) → answered k m ≡ A.Rows n → (eqb (first_failing k) k.rows ≡ true) × (n ≡ m)
+pub answered_rows : (k : Check) (m n : ℕ) → answered k m ≡ Ok n → (eqb (first_failing k) k.rows ≡ true) × (n ≡ m)
 unfolding answered
 answered_rows k m n e = elim (which (eqb (first_failing k) k.rows)) [
-  | inl f ↦ (f, (let z : A.Rows m ≡ A.Rows n = rw f at e in cc))
-  | inr f ↦ (let z : A.Refused (k.refusal (first_failing k)) ≡ A.Rows n = rw f at e in let y : ◌≡◌ {A = ℕ} 0 1 = cc in absurd (omega arith))
+  | inl f ↦ (f, (let z : Ok m ≡ Ok n = rw f at e in cc))
+  | inr f ↦ (let z : Err (k.refusal (first_failing k)) ≡ Ok n = rw f at e in let y : ◌≡◌ {A = ℕ} 0 1 = cc in absurd (omega arith))
 ]
 
 pub numbers_long : (t : Column) (w : ℕ) (xs : List (List ℕ)) → ((j : ℕ) → j < length xs → record_passes t w (get_or xs j []) ≡ true)
@@ -66,8 +65,8 @@ numbers_long t w (x ∷ xs) h =
     let g = numbers_long t w xs (λ j z. h (suc j) (omega arith)) in
     length-append (map field_value (fields x)) (flat_map (λ r. map field_value (fields r)) xs) ∙ omega (arith, length-map (fields x) field_value, e, g, mul-suc w (length xs))
 
-module _ (t : Column) (w : ℕ) (bs b left : List ℕ) (a : RecordsAnswer) (n m : ℕ) (read : Read t (file_check t w bs) bs b a left) (rows : a ≡ A.Rows n) (long : length b ≡ m) where
-  answer_of_lem : answered (file_check t w bs) (length (records bs)) ≡ A.Rows n
+module _ (t : Column) (w : ℕ) (bs b left : List ℕ) (a : Answer) (n m : ℕ) (read : Read t (file_check t w bs) bs b a left) (rows : a ≡ Ok n) (long : length b ≡ m) where
+  answer_of_lem : answered (file_check t w bs) (length (records bs)) ≡ Ok n
   answer_of_lem = sym read.answer ∙ rows
 
   passing : (j : ℕ) → j < length (records bs) → record_passes t w (get_or (records bs) j []) ≡ true

@@ -1,5 +1,6 @@
 -- What is printed on either page, from what the seven readers of records answered and stored. That this is what format's Printed.antt and NeedsTable.antt say of the files is in Prints.antt.
-use Rattle.std.specs.Prelude.{◌≡◌, refl, ℕ, zero, suc, ◌+◌, ◌*◌, min, List, [], ◌∷◌, ◌++◌, map, length, get_or, take, replicate, pos}
+use Rattle.meaning.specs.Refusals.{Verdict}
+use Rattle.std.specs.Prelude.{◌≡◌, refl, ℕ, zero, suc, ◌+◌, ◌*◌, min, List, [], ◌∷◌, ◌++◌, map, length, get_or, take, replicate, pos, Ok, Err}
 use Rattle.std.proofs.Common.{sym, ap, ◌∙◌, arith, append-nil, drop_of_length-le, take_all}
 use Rattle.std.proofs.Math.Decide.{dec_le}
 use Rattle.std.proofs.lemmas.List.{length-map, length-replicate}
@@ -8,8 +9,6 @@ use Rattle.meaning.specs.Tables.{Tables, move_row}
 use Rattle.meaning.specs.Check.{checks, verdict_of, verdict}
 use Rattle.meaning.specs.Machine.{start_state, trace}
 use Rattle.meaning.specs.declared.Refusal.{Refusal}
-use Rattle.meaning.specs.declared.Verdict.{Verdict}
-use Rattle.meaning.specs.declared.Verdict.TheVariants.{Accepted, Refused}
 use Rattle.format.specs.Printed.{most_text, chart_text, room_check, scan_lines, refusal_line}
 use Rattle.format.specs.NeedsTable.{needs_page}
 use Rattle.csv_value.specs.Decimals.{signed_of}
@@ -20,6 +19,7 @@ use Rattle.csv_tables.specs.declared.Answers.{Answers}
 use Rattle.csv_tables.specs.Told.{rows_of, field_verdict}
 use Rattle.print_lines.specs.declared.Printed.{Printed}
 use Rattle.print_needs.specs.Page.{NeedsPrintedTo}
+use Rattle.print_text.specs.declared.Stored.{Stored}
 use Rattle.print_text.specs.declared.PageKind.{PageKind}
 use Rattle.print_text.specs.declared.PageKind.TheVariants.{Text, Needs}
 
@@ -30,8 +30,8 @@ page_verdict Needs c = verdict c
 
 -- what is printed for tables, input words and a verdict
 unfoldable pub printed_of : PageKind → Tables → List ℕ → Verdict → List ℕ
-printed_of Text c xs Accepted = chart_text c ++ scan_lines 1 (trace c (start_state c) xs)
-printed_of Text c xs (Refused r) = refusal_line r
+printed_of Text c xs (Ok tt) = chart_text c ++ scan_lines 1 (trace c (start_state c) xs)
+printed_of Text c xs (Err r) = refusal_line r
 printed_of Needs c xs v = needs_page c v
 
 -- what an array of m numbers in a table's type has of k stored numbers
@@ -39,29 +39,29 @@ unfoldable pub narrowed : {A : Type 0} → A → ℕ → (ℕ → A) → ℕ →
 narrowed z m f k l = take (min k m) (sets (replicate m z) 0 (map f l))
 
 -- the tables that the stored numbers make: as many rows of each as there are, or as were kept
-abbrev pub held_tables : Answers → List ℕ → List ℕ → List ℕ → List ℕ → List ℕ → List ℕ → Tables
-held_tables a frame states moves presets timer_pairs output_pairs = record {
-  scan_step = low32 (get_or frame 0 0);
-  inputs = low32 (get_or frame 1 0);
-  outputs = low32 (get_or frame 2 0);
-  states = narrowed 0 514 low16 (2 * rows_of a.states) states;
-  moves = narrowed (pos 0) 5643 signed_of (move_row * rows_of a.moves) moves;
-  presets = narrowed 0 33 low32 (rows_of a.presets) presets;
-  timer_pairs = narrowed 0 4098 low16 (2 * rows_of a.timer_pairs) timer_pairs;
-  output_pairs = narrowed 0 4098 low16 (2 * rows_of a.output_pairs) output_pairs;
+abbrev pub held_tables : Answers → Stored → Tables
+held_tables a stored = record {
+  scan_step = low32 (get_or stored.frame.now 0 0);
+  inputs = low32 (get_or stored.frame.now 1 0);
+  outputs = low32 (get_or stored.frame.now 2 0);
+  states = narrowed 0 514 low16 (2 * rows_of a.states) stored.states.now;
+  moves = narrowed (pos 0) 5643 signed_of (move_row * rows_of a.moves) stored.moves.now;
+  presets = narrowed 0 33 low32 (rows_of a.presets) stored.presets.now;
+  timer_pairs = narrowed 0 4098 low16 (2 * rows_of a.timer_pairs) stored.timer_pairs.now;
+  output_pairs = narrowed 0 4098 low16 (2 * rows_of a.output_pairs) stored.output_pairs.now;
 }
 
-abbrev pub held_scans : Answers → List ℕ → List ℕ
-held_scans a scans = take (min (rows_of a.scans) 4096) scans
+abbrev pub held_scans : Answers → Stored → List ℕ
+held_scans a stored = take (min (rows_of a.scans) 4096) stored.scans.now
 
 abbrev pub both : Verdict → Verdict → Verdict
-both Accepted v = v
-both (Refused r) v = Refused r
+both (Ok tt) v = v
+both (Err r) v = Err r
 
 -- FIELD is one line on either page
 abbrev pub after_field : Verdict → List ℕ → List ℕ
-after_field Accepted w = w
-after_field (Refused r) w = refusal_line r
+after_field (Ok tt) w = w
+after_field (Err r) w = refusal_line r
 
 -- ---- contracts
 
@@ -71,17 +71,17 @@ pub record PrintedTo (v : Verdict) (w l : List ℕ) (p : Printed) (m : List ℕ)
   pub written : BytesPut l 0 w m p.length
 
 abbrev pub TextPrinted : ℕ → List ℕ → List ℕ → List ℕ → List ℕ → Printed → List ℕ → Type 0
-TextPrinted n text leaves outputs l p m = PrintedTo Accepted (take n text ++ scan_lines_from 1 leaves outputs) l p m
+TextPrinted n text leaves outputs l p m = PrintedTo (Ok tt) (take n text ++ scan_lines_from 1 leaves outputs) l p m
 
 abbrev pub TablesPrinted : PageKind → Tables → List ℕ → List ℕ → Printed → List ℕ → Type 0
 TablesPrinted page c xs l p m = PrintedTo (page_verdict page c) (printed_of page c xs (page_verdict page c)) l p m
 
-abbrev pub RowsPrinted : PageKind → Answers → List ℕ → List ℕ → List ℕ → List ℕ → List ℕ → List ℕ → List ℕ → List ℕ → Printed → List ℕ → Type 0
-RowsPrinted page a frame states moves presets timer_pairs output_pairs scans l p m = TablesPrinted page (held_tables a frame states moves presets timer_pairs output_pairs) (held_scans a scans) l p m
+abbrev pub RowsPrinted : PageKind → Answers → Stored → List ℕ → Printed → List ℕ → Type 0
+RowsPrinted page a stored l p m = TablesPrinted page (held_tables a stored) (held_scans a stored) l p m
 
-abbrev pub FilesPrinted : PageKind → Answers → List ℕ → List ℕ → List ℕ → List ℕ → List ℕ → List ℕ → List ℕ → List ℕ → Printed → List ℕ → Type 0
-FilesPrinted page a frame states moves presets timer_pairs output_pairs scans l p m = (let c = held_tables a frame states moves presets timer_pairs output_pairs in
-    PrintedTo (both (field_verdict a) (page_verdict page c)) (after_field (field_verdict a) (printed_of page c (held_scans a scans) (page_verdict page c))) l p m)
+abbrev pub FilesPrinted : PageKind → Answers → Stored → List ℕ → Printed → List ℕ → Type 0
+FilesPrinted page a stored l p m = (let c = held_tables a stored in
+    PrintedTo (both (field_verdict a) (page_verdict page c)) (after_field (field_verdict a) (printed_of page c (held_scans a stored) (page_verdict page c))) l p m)
 
 -- no second answer
 pub one_print : (v : Verdict) (w l m n : List ℕ) (p q : Printed) → PrintedTo v w l p m → PrintedTo v w l q n → (p ≡ q) × (m ≡ n)
@@ -131,10 +131,10 @@ pub same_printed : (page : PageKind) (c k : Tables) (xs ys l : List ℕ) (p : Pr
 same_printed page c k xs ys l p m e f q = rw (← e, ← f) q
 
 -- FIELD, or what comes after it
-pub printed_refused : (page : PageKind) (a : Answers) (frame states moves presets timer_pairs output_pairs scans l : List ℕ) (p : Printed) (m : List ℕ) (q : Refusal) → field_verdict a ≡ Refused q
-    → PrintedTo (Refused q) (refusal_line q) l p m → FilesPrinted page a frame states moves presets timer_pairs output_pairs scans l p m
-printed_refused page a frame states moves presets timer_pairs output_pairs scans l p m q e r = rw e r
+pub printed_refused : (page : PageKind) (a : Answers) (stored : Stored) (l : List ℕ) (p : Printed) (m : List ℕ) (q : Refusal) → field_verdict a ≡ Err q
+    → PrintedTo (Err q) (refusal_line q) l p m → FilesPrinted page a stored l p m
+printed_refused page a stored l p m q e r = rw e r
 
-pub printed_rows : (page : PageKind) (a : Answers) (frame states moves presets timer_pairs output_pairs scans l : List ℕ) (p : Printed) (m : List ℕ) → field_verdict a ≡ Accepted
-    → RowsPrinted page a frame states moves presets timer_pairs output_pairs scans l p m → FilesPrinted page a frame states moves presets timer_pairs output_pairs scans l p m
-printed_rows page a frame states moves presets timer_pairs output_pairs scans l p m e r = rw e r
+pub printed_rows : (page : PageKind) (a : Answers) (stored : Stored) (l : List ℕ) (p : Printed) (m : List ℕ) → field_verdict a ≡ (Ok tt)
+    → RowsPrinted page a stored l p m → FilesPrinted page a stored l p m
+printed_rows page a stored l p m e r = rw e r

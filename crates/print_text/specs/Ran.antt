@@ -1,6 +1,7 @@
 -- The run of the written text, over slices of 65,536 bytes and as many scans as there are input words: its refusals are those after FIELD, and it leaves what is printed.
+use Rattle.meaning.specs.Refusals.{Verdict}
 use Rattle.std.proofs.Math.Path.{◌≡◌, sym}
-use Rattle.std.specs.Prelude.{refl, ℕ, ◌≤◌, min, false, length, take, drop}
+use Rattle.std.specs.Prelude.{refl, ℕ, ◌≤◌, min, false, length, take, drop, Ok, Err, Result}
 use Rattle.std.proofs.Common.{ap, ◌∙◌, arith, length-append}
 use Rattle.std.proofs.Math.Logic.{inl, inr}
 use mathlib.Core.List.{List, [], ◌∷◌, ◌++◌, map}
@@ -17,14 +18,11 @@ use Rattle.meaning.specs.History.{history_reading}
 use Rattle.meaning.proofs.Laws.History.{run_is_reading}
 use Rattle.meaning.specs.Machine.{Seen, start_state, trace}
 use Rattle.meaning.specs.declared.Refusal.{Refusal}
-use Rattle.meaning.specs.declared.Verdict.{Verdict}
-use Rattle.meaning.specs.declared.Verdict.TheVariants.{Accepted, Refused}
 use Rattle.format.specs.Printed.{most_text, chart_text, room_check, scan_lines}
 use Rattle.check_tables.specs.Verdicts.{is_refused, stop, go}
 use Rattle.chart_lent.specs.Slice.{left}
 use Rattle.print_lines.specs.Results.{scan_lines_from, lines_are}
 use Rattle.roundtrip_call.specs.declared.WrittenRun.{WrittenRun}
-use Rattle.roundtrip_call.specs.declared.WrittenRun.TheVariants as O
 use Rattle.roundtrip_call.specs.WrittenRan.{later_checks, written_verdict, outcome, WrittenRan}
 use Rattle.print_lines.specs.declared.Printed.{Printed}
 use Rattle.print_text.specs.declared.PageKind.TheVariants.{Text}
@@ -32,20 +30,20 @@ use Rattle.print_text.specs.Print.{page_verdict, printed_of, TextPrinted, Tables
 
 -- the run has the text for an answer, or the refusal that comes after FIELD
 pub record PrintedRun (c : Tables) (xs : List ℕ) (n : ℕ) (l ls os : List ℕ) : Type 0 where
-  pub passes : page_verdict Text c ≡ Accepted
+  pub passes : page_verdict Text c ≡ (Ok tt)
   pub long : n ≡ length (chart_text c)
   pub text : l ≡ chart_text c ++ drop (length (chart_text c)) l
   pub leaves : ls ≡ map (λ (e : Seen). e.leaf) (trace c (start_state c) xs)
   pub outputs : os ≡ map (λ (e : Seen). e.outputs) (trace c (start_state c) xs)
 
 -- tables that nothing refuses after FIELD are accepted
-pub page_tables : (c : Tables) → page_verdict Text c ≡ Accepted → verdict c ≡ Accepted
+pub page_tables : (c : Tables) → page_verdict Text c ≡ (Ok tt) → verdict c ≡ (Ok tt)
 unfolding page_verdict verdict
 page_tables c e = by (verdict_of (checks c)) refl
   where
-    by : (w : Verdict) → verdict_of (checks c) ≡ w → verdict_of (checks c) ≡ Accepted
-    by Accepted f = f
-    by (Refused q) f = sym (stop (checks c) (room_check c most_text ∷ []) (ap is_refused f)) ∙ e
+    by : (w : Verdict) → verdict_of (checks c) ≡ w → verdict_of (checks c) ≡ (Ok tt)
+    by (Ok tt) f = f
+    by (Err q) f = sym (stop (checks c) (room_check c most_text ∷ []) (ap is_refused f)) ∙ e
 
 module _ (c : Tables) (xs l ws ls os : List ℕ) (full : length l ≡ 65536) (wide : length ws ≡ 65536) (same : length ls ≡ length xs) (alike : length os ≡ length xs) where
   abbrev scans_checks : List Check
@@ -68,17 +66,17 @@ module _ (c : Tables) (xs l ws ls os : List ℕ) (full : length l ≡ 65536) (wi
     | inr e ↦ go (checks c) (later_checks c xs l ws ls os) e ∙ (later_is ∙ sym (go (checks c) (room_check c most_text ∷ []) e))
   ]
 
-  refused_by : (w : Verdict) (q : Refusal) → outcome c w ≡ O.Refused q → w ≡ Refused q
+  refused_by : (w : Verdict) (q : Refusal) → outcome c w ≡ Err q → w ≡ Err q
   unfolding outcome
-  refused_by Accepted q e = (let z : ◌≡◌ {A = ℕ} 0 1 = cc in absurd (omega arith))
-  refused_by (Refused r) q e = cc
+  refused_by (Ok tt) q e = cc
+  refused_by (Err r) q e = cc
 
-  ran_by : (w : Verdict) (n k : ℕ) → outcome c w ≡ O.Ran n k → (w ≡ Accepted) × (n ≡ length (chart_text c))
+  ran_by : (w : Verdict) (r : WrittenRun) → outcome c w ≡ Ok r → (w ≡ (Ok tt)) × (r.text ≡ length (chart_text c))
   unfolding outcome
-  ran_by Accepted n k e = (refl, cc)
-  ran_by (Refused r) n k e = (let z : ◌≡◌ {A = ℕ} 0 1 = cc in absurd (omega arith))
+  ran_by (Ok tt) r e = (refl, cc)
+  ran_by (Err q) r e = cc
 
-  pub ran_refused : (r : WrittenRun) (l' ws' ls' os' : List ℕ) (q : Refusal) → WrittenRan c xs l ws ls os r l' ws' ls' os' → r ≡ O.Refused q → page_verdict Text c ≡ Refused q
+  pub ran_refused : (r : Result WrittenRun Refusal) (l' ws' ls' os' : List ℕ) (q : Refusal) → WrittenRan c xs l ws ls os r l' ws' ls' os' → r ≡ Err q → page_verdict Text c ≡ Err q
   ran_refused r l' ws' ls' os' q w e = sym same_verdict ∙ refused_by (written_verdict c xs l ws ls os) q (sym w.answers ∙ e)
 
   overlaid_text : (l' : List ℕ) → l' ≡ overlaid (chart_text c) l → l' ≡ chart_text c ++ drop (length (chart_text c)) l'
@@ -86,15 +84,15 @@ module _ (c : Tables) (xs l ws ls os : List ℕ) (full : length l ≡ 65536) (wi
   overlaid_text l' e = rw e (ap (λ (d : List ℕ). chart_text c ++ d) (sym (drop-append_seam (chart_text c) (drop (length (chart_text c)) l))))
 
   -- an accepted run's results are its own
-  left_new : (v : Verdict) (new old m : List ℕ) → v ≡ Accepted → m ≡ left v new old → m ≡ new
+  left_new : (v : Verdict) (new old m : List ℕ) → v ≡ (Ok tt) → m ≡ left v new old → m ≡ new
   unfolding left
   left_new v new old m f e = rw f at e
 
-  pub ran_wrote : (r : WrittenRun) (l' ws' ls' os' : List ℕ) (n k : ℕ) → WrittenRan c xs l ws ls os r l' ws' ls' os' → r ≡ O.Ran n k → PrintedRun c xs n l' ls' os'
-  ran_wrote r l' ws' ls' os' n k w e =
+  pub ran_wrote : (a : Result WrittenRun Refusal) (l' ws' ls' os' : List ℕ) (r : WrittenRun) → WrittenRan c xs l ws ls os a l' ws' ls' os' → a ≡ Ok r → PrintedRun c xs r.text l' ls' os'
+  ran_wrote a l' ws' ls' os' r w e =
       let v : Verdict = written_verdict c xs l ws ls os in
-      let b = ran_by v n k (sym w.answers ∙ e) in
-      let f : v ≡ Accepted = b.0 in
+      let b = ran_by v r (sym w.answers ∙ e) in
+      let f : v ≡ (Ok tt) = b.0 in
       let t : trace c (start_state c) xs ≡ history_reading c xs = run_is_reading c ((accepted_exactly c).0 (page_tables c (sym same_verdict ∙ f))) xs in
       record {
         passes = sym same_verdict ∙ f;
@@ -113,7 +111,7 @@ module _ (c : Tables) (xs : List ℕ) (n : ℕ) (l ls os : List ℕ) (ran : Prin
   pub same_lengths : length os ≡ length ls
   same_lengths = ap length ran.outputs ∙ length-map (trace c (start_state c) xs) (λ (e : Seen). e.outputs) ∙ sym (ap length ran.leaves ∙ length-map (trace c (start_state c) xs) (λ (e : Seen). e.leaf))
 
-  bytes_are : take n l ++ scan_lines_from 1 ls os ≡ printed_of Text c xs Accepted
+  bytes_are : take n l ++ scan_lines_from 1 ls os ≡ printed_of Text c xs (Ok tt)
   unfolding printed_of
   bytes_are = rw (ran.leaves, ran.outputs, lines_are 1 (trace c (start_state c) xs), ran.long)
       (ap (λ (t : List ℕ). t ++ scan_lines 1 (trace c (start_state c) xs)) (ap (take (length (chart_text c))) ran.text ∙ take-append_seam (chart_text c) (drop (length (chart_text c)) l)))

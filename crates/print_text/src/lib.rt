@@ -1,20 +1,17 @@
 // What the program prints, from what the seven readers of records answered and stored.
 #![tactic(auto)]
 
-ghost use Rattle.std.specs.Prelude.{◌≡◌, ℕ, ◌≤◌, length, List};
-ghost use Rattle.meaning.specs.declared.Verdict.TheVariants.{Refused};
+ghost use Rattle.std.specs.Prelude.{◌≡◌, ◌≤◌, length, Err};
 ghost use Rattle.format.specs.Printed.{refusal_line};
-ghost use Rattle.tables.specs.Given.{tables_of};
-ghost use Rattle.csv_tables.specs.declared.Answers as X;
-ghost use Rattle.csv_tables.specs.Told.{Counted, chart_from};
+ghost use Rattle.tables.specs.Given.{given};
 ghost use Rattle.print_text.specs.declared.PageKind.TheVariants as P;
-ghost use Rattle.print_text.specs.Print.{PrintedTo, TextPrinted, TablesPrinted, RowsPrinted, FilesPrinted};
+ghost use Rattle.print_text.specs.Lengths.{page_most};
+ghost use Rattle.print_text.specs.Print.{PrintedTo, TablesPrinted, RowsPrinted, FilesPrinted};
 
-use csv_tables::{Answers, Counts};
-use meaning::{Refusal, Verdict};
+use csv_tables::Answers;
+use meaning::Refusal;
 use print_lines::Printed;
-use roundtrip_call::WrittenRun;
-use tables::Chart;
+use tables::ChartTables;
 
 // What the program is asked to print: the text and its run, or the table of what the moves need.
 #[derive(Clone, Copy)]
@@ -23,43 +20,34 @@ pub enum PageKind {
     Needs,
 }
 
+// The numbers of the seven files, as the readers of records stored them: a row more than its limit of each table.
+#[derive(Clone, Copy)]
+pub struct Stored<'a> {
+    pub frame: &'a [u64; 3],
+    pub states: &'a [u64; 514],
+    pub moves: &'a [u64; 5643],
+    pub presets: &'a [u64; 33],
+    pub timer_pairs: &'a [u64; 4098],
+    pub output_pairs: &'a [u64; 4098],
+    pub scans: &'a [u64],
+}
+
+// More bytes than are printed on either page (`page_room` in specs/Lengths.antt).
+pub const PAGE_MOST: usize = 327680;
+
 // "On refusal only "REFUSED,number,place"."
 fn print_refusal(r: Refusal, out: &mut [u8]) -> Printed
-    ensures { PrintedTo (Refused r) (refusal_line r) out.old result out.new }
+    ensures { PrintedTo (Err r) (refusal_line r) out.old result out.new }
 {
-    let length = print_lines::put_refusal(out, 0, r);
     Printed {
-        length,
-        verdict: Verdict::Refused(r),
+        length: print_lines::put_refusal(out, 0, r),
+        verdict: Err(r),
     }
 }
 
-// The first n bytes of the text's slice, then a line a scan.
-fn print_text(n: usize, text: &[u8], leaves: &[u16], outputs: &[u64], out: &mut [u8]) -> Printed
-    ensures { n ≤ length text.now → length outputs.now ≡ length leaves.now
-        → TextPrinted n text.now leaves.now outputs.now out.old result
-        out.new }
-{
-    if text.len() < n {
-        return Printed {
-            length: 0,
-            verdict: Verdict::Accepted,
-        };
-    }
-    let length = print_lines::put_run(out, &text[..n], leaves, outputs);
-    Printed {
-        length,
-        verdict: Verdict::Accepted,
-    }
-}
-
+// The text, then a line a scan.
 fn print_run(
-    chart: Chart,
-    states: &[u16],
-    moves: &[i16],
-    presets: &[u32],
-    timer_pairs: &[u16],
-    output_pairs: &[u16],
+    t: &ChartTables<'_>,
     text: &mut [u8],
     words: &mut [u32],
     scans: &[u64],
@@ -67,66 +55,33 @@ fn print_run(
     outputs: &mut [u64],
     out: &mut [u8],
 ) -> Printed
-    ensures { length text.old ≡ 65536 → length words.old ≡ 65536
-        → length leaves.old ≡ length scans.now
-        → length outputs.old ≡ length scans.now
-        → TablesPrinted P.Text (tables_of chart states.now moves.now presets.now
-        timer_pairs.now output_pairs.now) scans.now out.old result
-        out.new }
+    requires text { length text.old ≡ 65536 }
+    requires words { length words.old ≡ 65536 }
+    requires leaves { length leaves.old ≡ length scans.now }
+    requires outputs { length outputs.old ≡ length scans.now }
+    ensures { TablesPrinted P.Text (given t.now) scans.now out.old result out.new }
 {
-    let o = roundtrip_call::run_written(
-        chart,
-        states,
-        moves,
-        presets,
-        timer_pairs,
-        output_pairs,
-        text,
-        words,
-        scans,
-        leaves,
-        outputs,
-    );
-    match o {
-        WrittenRun::Refused(r) => print_refusal(r, out),
-        WrittenRun::Ran { text: n, words: _ } => print_text(n, text, leaves, outputs, out),
+    match roundtrip_call::run_written(t, text, words, scans, leaves, outputs) {
+        Err(r) => print_refusal(r, out),
+        Ok(run) => Printed {
+            length: print_lines::put_run(out, &text[..run.text], leaves, outputs),
+            verdict: Ok(()),
+        },
     }
 }
 
 // "A text above 65,536 bytes is ROOM here."; "scans.csv has at most 4,096".
-fn print_scans(
-    chart: Chart,
-    states: &[u16],
-    moves: &[i16],
-    presets: &[u32],
-    timer_pairs: &[u16],
-    output_pairs: &[u16],
-    scans: &[u64],
-    out: &mut [u8],
-) -> Printed
-    ensures { length scans.now ≤ 4096
-        → TablesPrinted P.Text (tables_of chart states.now moves.now presets.now
-        timer_pairs.now output_pairs.now) scans.now out.old result
-        out.new }
+fn print_scans(t: &ChartTables<'_>, scans: &[u64], out: &mut [u8]) -> Printed
+    requires { length scans.now ≤ 4096 }
+    ensures { TablesPrinted P.Text (given t.now) scans.now out.old result out.new }
 {
     let n = scans.len();
-    if 4096 < n {
-        return Printed {
-            length: 0,
-            verdict: Verdict::Accepted,
-        };
-    }
     let mut text = [0u8; 65536];
     let mut words = [0u32; 65536];
     let mut leaves = [0u16; 4096];
     let mut outputs = [0u64; 4096];
     print_run(
-        chart,
-        states,
-        moves,
-        presets,
-        timer_pairs,
-        output_pairs,
+        t,
         &mut text,
         &mut words,
         scans,
@@ -137,123 +92,59 @@ fn print_scans(
 }
 
 // Either page of the tables; the scans are for the text's run.
-fn print_tables(
-    page: PageKind,
-    chart: Chart,
-    states: &[u16],
-    moves: &[i16],
-    presets: &[u32],
-    timer_pairs: &[u16],
-    output_pairs: &[u16],
-    scans: &[u64],
-    out: &mut [u8],
-) -> Printed
-    ensures { length scans.now ≤ 4096
-        → TablesPrinted page (tables_of chart states.now moves.now presets.now
-        timer_pairs.now output_pairs.now) scans.now out.old result
-        out.new }
+fn print_tables(page: PageKind, t: &ChartTables<'_>, scans: &[u64], out: &mut [u8]) -> Printed
+    requires { length scans.now ≤ 4096 }
+    ensures { TablesPrinted page (given t.now) scans.now out.old result out.new }
 {
     match page {
-        PageKind::Text => print_scans(
-            chart,
-            states,
-            moves,
-            presets,
-            timer_pairs,
-            output_pairs,
-            scans,
-            out,
-        ),
-        PageKind::Needs => print_needs::print_needs(
-            chart,
-            states,
-            moves,
-            presets,
-            timer_pairs,
-            output_pairs,
-            out,
-        ),
+        PageKind::Text => print_scans(t, scans, out),
+        PageKind::Needs => print_needs::print_needs(t, out),
     }
 }
 
 // The tables in their types.
-fn print_rows(
-    page: PageKind,
-    chart: Chart,
-    n: Counts,
-    states: &[u64; 514],
-    moves: &[u64; 5643],
-    presets: &[u64; 33],
-    timer_pairs: &[u64; 4098],
-    output_pairs: &[u64; 4098],
-    scans: &[u64],
-    out: &mut [u8],
-) -> Printed
-    ensures { (a : X.Answers) → Counted a n → (frame : List ℕ) → chart ≡ chart_from frame
-        → RowsPrinted page a frame states.now moves.now presets.now
-        timer_pairs.now output_pairs.now scans.now out.old result
-        out.new }
+fn print_rows(page: PageKind, answers: Answers, stored: &Stored<'_>, out: &mut [u8]) -> Printed
+    ensures { RowsPrinted page answers stored.now out.old result out.new }
 {
-    let mut s = [0u16; 514];
-    csv_columns::narrow_16(states, &mut s);
-    let mut m = [0i16; 5643];
-    csv_columns::narrow_signed(moves, &mut m);
-    let mut d = [0u32; 33];
-    csv_columns::narrow_32(presets, &mut d);
-    let mut t = [0u16; 4098];
-    csv_columns::narrow_16(timer_pairs, &mut t);
-    let mut o = [0u16; 4098];
-    csv_columns::narrow_16(output_pairs, &mut o);
-    let n_s = csv_columns::ones(n.states, 514);
-    let n_m = csv_columns::ones(n.moves, 5643);
-    let n_d = csv_columns::ones(n.presets, 33);
-    let n_t = csv_columns::ones(n.timer_pairs, 4098);
-    let n_o = csv_columns::ones(n.output_pairs, 4098);
-    let n_x = csv_columns::ones(n.scans, scans.len());
-    print_tables(
-        page,
-        chart,
-        &s[..n_s],
-        &m[..n_m],
-        &d[..n_d],
-        &t[..n_t],
-        &o[..n_o],
-        &scans[..n_x],
-        out,
-    )
+    let Stored {
+        frame,
+        states,
+        moves,
+        presets,
+        timer_pairs,
+        output_pairs,
+        scans,
+    } = *stored;
+    let mut state_numbers = [0u16; 514];
+    csv_columns::narrow(states, &mut state_numbers);
+    let mut move_numbers = [0i16; 5643];
+    csv_columns::narrow(moves, &mut move_numbers);
+    let mut preset_numbers = [0u32; 33];
+    csv_columns::narrow(presets, &mut preset_numbers);
+    let mut timer_numbers = [0u16; 4098];
+    csv_columns::narrow(timer_pairs, &mut timer_numbers);
+    let mut output_numbers = [0u16; 4098];
+    csv_columns::narrow(output_pairs, &mut output_numbers);
+    let n = csv_tables::count_rows(answers);
+    let t = ChartTables {
+        chart: csv_tables::chart_of(frame),
+        states: &state_numbers[..n.states],
+        moves: &move_numbers[..n.moves],
+        presets: &preset_numbers[..n.presets],
+        timer_pairs: &timer_numbers[..n.timer_pairs],
+        output_pairs: &output_numbers[..n.output_pairs],
+    };
+    let kept = n.scans.min(scans.len());
+    print_tables(page, &t, &scans[..kept], out)
 }
 
 // FIELD, then the page: the tables' refusals and ROOM, or the text and a line a scan; or what the moves need.
-pub fn print(
-    page: PageKind,
-    answers: Answers,
-    frame: &[u64; 3],
-    states: &[u64; 514],
-    moves: &[u64; 5643],
-    presets: &[u64; 33],
-    timer_pairs: &[u64; 4098],
-    output_pairs: &[u64; 4098],
-    scans: &[u64],
-    out: &mut [u8],
-) -> Printed
-    ensures { FilesPrinted page answers frame.now states.now moves.now
-        presets.now timer_pairs.now output_pairs.now scans.now
-        out.old result out.new }
+pub fn print(page: PageKind, answers: Answers, stored: &Stored<'_>, out: &mut [u8]) -> Printed
+    ensures files { FilesPrinted page answers stored.now out.old result out.new }
+    ensures room { result.length ≤ page_most }
 {
-    let v = csv_tables::fields_pass(answers);
-    match v {
-        Verdict::Refused(r) => print_refusal(r, out),
-        Verdict::Accepted => print_rows(
-            page,
-            csv_tables::chart_of(frame),
-            csv_tables::count_rows(answers),
-            states,
-            moves,
-            presets,
-            timer_pairs,
-            output_pairs,
-            scans,
-            out,
-        ),
+    match csv_tables::fields_pass(answers) {
+        Err(r) => print_refusal(r, out),
+        Ok(()) => print_rows(page, answers, stored, out),
     }
 }

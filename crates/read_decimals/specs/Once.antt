@@ -1,12 +1,11 @@
 -- No second answer of any function of this crate.
-use Rattle.std.specs.Prelude.{◌≡◌, refl, ℕ, ◌≤◌, List, ◌++◌}
+use Rattle.std.specs.Prelude.{◌≡◌, refl, ℕ, ◌≤◌, List, ◌++◌, Some, None}
 use Rattle.std.proofs.Common.{sym, ap, ◌∙◌, arith}
 use Rattle.meaning.specs.Once.{Once}
 use Rattle.meaning.proofs.Laws.Rows.{same_test}
 use Rattle.format.specs.Text.{decimal}
 use Rattle.format.specs.Automata.Lines.{leading}
 use Rattle.format.proofs.Laws.Decimals.{leading_all}
-use Rattle.read_decimals.specs.declared.Number.TheVariants as N
 use Rattle.read_decimals.specs.Forms.{SameWord, Spells}
 use Rattle.read_decimals.specs.FormLaws.{cut}
 
@@ -20,7 +19,7 @@ one_number head tail l n m h k e f =
 
 -- a number of 32 bits is at most 4,294,967,295
 pub numbered_once : (s head tail : List ℕ) (low high : ℕ) → high ≤ 4294967295 → Once (λ r. Spells head tail low high s r)
-numbered_once s head tail low high h (N.Is n) (N.Is m) p q = ap N.Is (one_number head tail s n m (omega (arith, p.1)) (omega (arith, q.1)) p.2 q.2)
-numbered_once s head tail low high h (N.Is n) N.Nothing p q = absurd (q n p.0 p.1 p.2)
-numbered_once s head tail low high h N.Nothing (N.Is m) p q = absurd (p m q.0 q.1 q.2)
-numbered_once s head tail low high h N.Nothing N.Nothing p q = refl
+numbered_once s head tail low high h (Some n) (Some m) p q = ap Some (one_number head tail s n m (omega (arith, p.1)) (omega (arith, q.1)) p.2 q.2)
+numbered_once s head tail low high h (Some n) None p q = absurd (q n p.0 p.1 p.2)
+numbered_once s head tail low high h None (Some m) p q = absurd (p m q.0 q.1 q.2)
+numbered_once s head tail low high h None None p q = refl

@@ -96,3 +96,10 @@ digit_more l i n z k p h = elim (dec_le 1 i) [
   | no g ↦ (let y : i ≡ 0 = omega arith in
       let w : get_or l i 0 ≢ 48 = rw y (k h) in omega arith)
 ]
+
+-- neither no byte at all nor a zero in front of others
+pub no_front : (l : List ℕ) → (0 < length l → 1 < length l) → (0 < length l → get_or l 0 0 ≡ 48) → (m : ℕ) → m ≤ 4294967295 → decimal m ≡ l → ⊥
+no_front l a b m h e = elim (dec_le 1 (length l)) [
+  | yes g ↦ zero_first l (a g) (b g) m h e
+  | no g ↦ no_bytes (spelling_none l) (omega arith) (omega arith) m h e
+]

@@ -1,5 +1,5 @@
 -- The forms of a line, one by one: which line a form is, and why there is none where the forms that begin alike are not met.
-use Rattle.std.specs.Prelude.{◌≡◌, ◌≢◌, ℕ, ◌≤◌, Bool, false, ◌||◌, List, [], ◌∷◌, ◌++◌, length, leb}
+use Rattle.std.specs.Prelude.{◌≡◌, ◌≢◌, ℕ, ◌≤◌, Bool, false, ◌||◌, List, [], ◌∷◌, ◌++◌, length, leb, Some, None}
 use Rattle.std.proofs.Math.Path.{refl}
 use Rattle.std.proofs.Common.{sym, ap, ◌∙◌, append-nil, append_assoc}
 use Rattle.std.proofs.Math.Logic.{inl, inr}
@@ -20,8 +20,6 @@ use Rattle.format.specs.Decode.{parameter_fits, block_fits, operator_fits}
 use Rattle.format.proofs.Laws.Decode.{within, in_range}
 use Rattle.format.specs.Automata.Lines.{leading, timer_operand, operand_in, operator_in, line_in, line_text, line_fits, said}
 use Rattle.format.proofs.Laws.Lines.{said_is, said_none}
-use Rattle.read_decimals.specs.declared.Number.TheVariants as N
-use Rattle.read_operands.specs.declared.Named.TheVariants as O
 use Rattle.read_decimals.specs.Forms.{SameWord, Spells}
 use Rattle.read_operands.specs.Names.{Names}
 use Rattle.read_line.specs.Forms.{Stores, Puts, Others, operator_byte, line_byte}
@@ -32,56 +30,56 @@ found : (l : List ℕ) (t : Line) → line_fits t ≡ true → line_text t ≡ l
 found l t f e = sym (said_is l t f e)
 
 module _ {l : List ℕ} {n : ℕ} where
-  pub store_mx : Spells (bytes "ST %MX") [] 0 255 l (N.Is n) → Says (St (Mx n)) ≡ said l
+  pub store_mx : Spells (bytes "ST %MX") [] 0 255 l (Some n) → Says (St (Mx n)) ≡ said l
   unfolding line_fits line_text operator_fits flip_flop_fits operator_text operand_text
   store_mx s = found l (Says (St (Mx n))) (rw (le-leb n 255 s.1)) (ap (λ x. bytes "ST %MX" ++ x) (sym (append-nil (decimal n))) ∙ s.2)
 
-  pub store_qx : Spells (bytes "ST %QX") [] 1 64 l (N.Is n) → Says (St (Qx n)) ≡ said l
+  pub store_qx : Spells (bytes "ST %QX") [] 1 64 l (Some n) → Says (St (Qx n)) ≡ said l
   unfolding line_fits line_text operator_fits flip_flop_fits output_fits operator_text operand_text
   store_qx s = found l (Says (St (Qx n))) (rw (le-leb 1 n s.0, le-leb n 64 s.1)) (ap (λ x. bytes "ST %QX" ++ x) (sym (append-nil (decimal n))) ∙ s.2)
 
-  pub store_in : Spells (bytes "ST T") (bytes ".IN") 1 32 l (N.Is n) → Says (St (TimerIn n)) ≡ said l
+  pub store_in : Spells (bytes "ST T") (bytes ".IN") 1 32 l (Some n) → Says (St (TimerIn n)) ≡ said l
   unfolding line_fits line_text operator_fits flip_flop_fits output_fits parameter_fits operator_text operand_text
   store_in s = found l (Says (St (TimerIn n))) (in_range 1 32 n s.0 s.1) s.2
 
-  pub store_pt : Spells (bytes "ST T") (bytes ".PT") 1 32 l (N.Is n) → Says (St (TimerPt n)) ≡ said l
+  pub store_pt : Spells (bytes "ST T") (bytes ".PT") 1 32 l (Some n) → Says (St (TimerPt n)) ≡ said l
   unfolding line_fits line_text operator_fits flip_flop_fits output_fits parameter_fits operator_text operand_text
   store_pt s = found l (Says (St (TimerPt n))) (in_range 1 32 n s.0 s.1) s.2
 
-  pub store_s : Spells (bytes "S %MX") [] 0 255 l (N.Is n) → Says (S (Mx n)) ≡ said l
+  pub store_s : Spells (bytes "S %MX") [] 0 255 l (Some n) → Says (S (Mx n)) ≡ said l
   unfolding line_fits line_text operator_fits flip_flop_fits operator_text operand_text
   store_s s = found l (Says (S (Mx n))) (le-leb n 255 s.1) (ap (λ x. bytes "S %MX" ++ x) (sym (append-nil (decimal n))) ∙ s.2)
 
-  pub store_r : Spells (bytes "R %MX") [] 0 255 l (N.Is n) → Says (R (Mx n)) ≡ said l
+  pub store_r : Spells (bytes "R %MX") [] 0 255 l (Some n) → Says (R (Mx n)) ≡ said l
   unfolding line_fits line_text operator_fits flip_flop_fits operator_text operand_text
   store_r s = found l (Says (R (Mx n))) (le-leb n 255 s.1) (ap (λ x. bytes "R %MX" ++ x) (sym (append-nil (decimal n))) ∙ s.2)
 
-  pub store_call : Spells (bytes "CAL T") [] 1 32 l (N.Is n) → Says (Cal (Timer n)) ≡ said l
+  pub store_call : Spells (bytes "CAL T") [] 1 32 l (Some n) → Says (Cal (Timer n)) ≡ said l
   unfolding line_fits line_text operator_fits block_fits operator_text operand_text
   store_call s = found l (Says (Cal (Timer n))) (in_range 1 32 n s.0 s.1) (ap (λ x. bytes "CAL T" ++ x) (sym (append-nil (decimal n))) ∙ s.2)
 
-  pub load_time : Spells (bytes "LD T#") (bytes "ms") 1 86400000 l (N.Is n) → Says (LdTime n) ≡ said l
+  pub load_time : Spells (bytes "LD T#") (bytes "ms") 1 86400000 l (Some n) → Says (LdTime n) ≡ said l
   unfolding line_fits line_text operator_fits operator_text
   load_time s = found l (Says (LdTime n)) (in_range 1 86400000 n s.0 s.1) s.2
 
-  pub line_block : Spells (bytes "T") (bytes " : TON;") 1 32 l (N.Is n) → Block n ≡ said l
+  pub line_block : Spells (bytes "T") (bytes " : TON;") 1 32 l (Some n) → Block n ≡ said l
   unfolding line_fits line_text
   line_block s = found l (Block n) (in_range 1 32 n s.0 s.1) s.2
 
 module _ {l : List ℕ} {o : Operand} where
-  pub test_ldn : Names (bytes "LDN ") (testable 32) l (O.Is o) → Says (Ldn o) ≡ said l
+  pub test_ldn : Names (bytes "LDN ") (testable 32) l (Some o) → Says (Ldn o) ≡ said l
   unfolding line_fits line_text operator_fits operator_text
   test_ldn s = found l (Says (Ldn o)) s.0 s.1
 
-  pub test_and : Names (bytes "AND ") (testable 32) l (O.Is o) → Says (And o) ≡ said l
+  pub test_and : Names (bytes "AND ") (testable 32) l (Some o) → Says (And o) ≡ said l
   unfolding line_fits line_text operator_fits operator_text
   test_and s = found l (Says (And o)) s.0 s.1
 
-  pub test_andn : Names (bytes "ANDN ") (testable 32) l (O.Is o) → Says (Andn o) ≡ said l
+  pub test_andn : Names (bytes "ANDN ") (testable 32) l (Some o) → Says (Andn o) ≡ said l
   unfolding line_fits line_text operator_fits operator_text
   test_andn s = found l (Says (Andn o)) s.0 s.1
 
-  pub load_test : Names (bytes "LD ") (testable 32) l (O.Is o) → Says (Ld o) ≡ said l
+  pub load_test : Names (bytes "LD ") (testable 32) l (Some o) → Says (Ld o) ≡ said l
   unfolding line_fits line_text operator_fits operator_text
   load_test s = found l (Says (Ld o)) (or_l (testable 32 o) (constant o) s.0) s.1
 
@@ -169,7 +167,7 @@ module _ {l : List ℕ} (p : 65 ≤ get_or l 0 0) (q : get_or l 0 0 ≤ 83) (e�
 
 -- ---- LD and LDN
 
-module _ {l : List ℕ} (b : get_or l 0 0 ≡ 76) (ldn : Names (bytes "LDN ") (testable 32) l O.Nothing) (test : Names (bytes "LD ") (testable 32) l O.Nothing) (no : bytes "LD FALSE" ≡ l → ⊥) (sure : bytes "LD TRUE" ≡ l → ⊥) (time : Spells (bytes "LD T#") (bytes "ms") 1 86400000 l N.Nothing) where
+module _ {l : List ℕ} (b : get_or l 0 0 ≡ 76) (ldn : Names (bytes "LDN ") (testable 32) l None) (test : Names (bytes "LD ") (testable 32) l None) (no : bytes "LD FALSE" ≡ l → ⊥) (sure : bytes "LD TRUE" ≡ l → ⊥) (time : Spells (bytes "LD T#") (bytes "ms") 1 86400000 l None) where
   no_constant : (o : Operand) → constant o ≡ true → bytes "LD " ++ operand_text o ≡ l → ⊥
   unfolding constant operand_text
   no_constant (Mx n) f e = false≢true f
@@ -201,10 +199,10 @@ module _ {l : List ℕ} (b : get_or l 0 0 ≡ 76) (ldn : Names (bytes "LDN ") (t
 
 -- the third byte tells LD from LDN
 module _ {l : List ℕ} (b : get_or l 0 0 ≡ 76) where
-  pub no_ldn : get_or l 2 0 ≡ 78 → Names (bytes "LDN ") (testable 32) l O.Nothing → Unknown ≡ said l
+  pub no_ldn : get_or l 2 0 ≡ 78 → Names (bytes "LDN ") (testable 32) l None → Unknown ≡ said l
   no_ldn k s = no_load b s (λ o f e. omega (arith, ap (λ x. get_or x 2 0) e)) (λ e. omega (arith, ap (λ x. get_or x 2 0) e)) (λ e. omega (arith, ap (λ x. get_or x 2 0) e)) (λ n p q e. omega (arith, ap (λ x. get_or x 2 0) e))
 
-  pub no_ld : get_or l 2 0 ≢ 78 → Names (bytes "LD ") (testable 32) l O.Nothing → (bytes "LD FALSE" ≡ l → ⊥) → (bytes "LD TRUE" ≡ l → ⊥) → Spells (bytes "LD T#") (bytes "ms") 1 86400000 l N.Nothing → Unknown ≡ said l
+  pub no_ld : get_or l 2 0 ≢ 78 → Names (bytes "LD ") (testable 32) l None → (bytes "LD FALSE" ≡ l → ⊥) → (bytes "LD TRUE" ≡ l → ⊥) → Spells (bytes "LD T#") (bytes "ms") 1 86400000 l None → Unknown ≡ said l
   no_ld k = no_load b (λ o f e. k (sym (ap (λ x. get_or x 2 0) e)))
 
 pub short_ld : (l : List ℕ) → get_or l 0 0 ≡ 76 → length l ≤ 2 → Unknown ≡ said l
@@ -212,7 +210,7 @@ short_ld l b k = no_load b (λ o f e. omega (arith, ap length e)) (λ o f e. ome
 
 -- ---- AND and ANDN
 
-module _ {l : List ℕ} (b : get_or l 0 0 ≡ 65) (and : Names (bytes "AND ") (testable 32) l O.Nothing) (andn : Names (bytes "ANDN ") (testable 32) l O.Nothing) where
+module _ {l : List ℕ} (b : get_or l 0 0 ≡ 65) (and : Names (bytes "AND ") (testable 32) l None) (andn : Names (bytes "ANDN ") (testable 32) l None) where
   no_test : Unknown ≡ said l
   unfolding operator_byte operator_fits operator_text
   no_test = none_says (omega arith) (omega arith) (λ e. omega arith) (λ e. omega arith) tried
@@ -232,10 +230,10 @@ module _ {l : List ℕ} (b : get_or l 0 0 ≡ 65) (and : Names (bytes "AND ") (t
 
 -- the fourth byte tells AND from ANDN
 module _ {l : List ℕ} (b : get_or l 0 0 ≡ 65) where
-  pub no_andn : get_or l 3 0 ≡ 78 → Names (bytes "ANDN ") (testable 32) l O.Nothing → Unknown ≡ said l
+  pub no_andn : get_or l 3 0 ≡ 78 → Names (bytes "ANDN ") (testable 32) l None → Unknown ≡ said l
   no_andn k s = no_test b (λ o f e. omega (arith, ap (λ x. get_or x 3 0) e)) s
 
-  pub no_and : get_or l 3 0 ≢ 78 → Names (bytes "AND ") (testable 32) l O.Nothing → Unknown ≡ said l
+  pub no_and : get_or l 3 0 ≢ 78 → Names (bytes "AND ") (testable 32) l None → Unknown ≡ said l
   no_and k s = no_test b s (λ o f e. k (sym (ap (λ x. get_or x 3 0) e)))
 
 pub short_and : (l : List ℕ) → get_or l 0 0 ≡ 65 → length l ≤ 3 → Unknown ≡ said l
@@ -257,12 +255,12 @@ only_mx False f k = absurd (false≢true f)
 only_mx True f k = absurd (false≢true f)
 
 -- a word, %MX and a number
-no_mx : (head : List ℕ) (o : Operand) {l : List ℕ} → flip_flop_fits o ≡ true → Spells (head ++ bytes "%MX") [] 0 255 l N.Nothing → head ++ operand_text o ≡ l → ⊥
+no_mx : (head : List ℕ) (o : Operand) {l : List ℕ} → flip_flop_fits o ≡ true → Spells (head ++ bytes "%MX") [] 0 255 l None → head ++ operand_text o ≡ l → ⊥
 unfolding operand_text
 no_mx head o f s e = only_mx o f (λ n h z. s n (omega arith) h (append_assoc head (bytes "%MX") (decimal n ++ []) ∙ ap (λ x. head ++ (bytes "%MX" ++ x)) (append-nil (decimal n)) ∙ ap (λ x. head ++ operand_text x) (sym z) ∙ e))
 
 module _ {l : List ℕ} (b : Stores l) (put : (o : Operand) → (flip_flop_fits o || output_fits o || parameter_fits o) ≡ true → bytes "ST " ++ operand_text o ≡ l → ⊥)
-    (s : Spells (bytes "S %MX") [] 0 255 l N.Nothing) (r : Spells (bytes "R %MX") [] 0 255 l N.Nothing) where
+    (s : Spells (bytes "S %MX") [] 0 255 l None) (r : Spells (bytes "R %MX") [] 0 255 l None) where
   no_end : Unknown ≡ said l
   unfolding operator_byte operator_fits operator_text
   no_end = none_says (omega arith) (omega arith) (λ e. omega arith) (λ e. omega arith) tried
@@ -285,10 +283,10 @@ short_store l b k = no_end b (λ o f e. omega (arith, ap length e)) (λ n p q e.
 
 -- the second byte tells ST from S and R
 module _ {l : List ℕ} (b : Stores l) where
-  pub no_store : get_or l 1 0 ≢ 84 → Spells (bytes "S %MX") [] 0 255 l N.Nothing → Spells (bytes "R %MX") [] 0 255 l N.Nothing → Unknown ≡ said l
+  pub no_store : get_or l 1 0 ≢ 84 → Spells (bytes "S %MX") [] 0 255 l None → Spells (bytes "R %MX") [] 0 255 l None → Unknown ≡ said l
   no_store k = no_end b (λ o f e. k (sym (ap (λ x. get_or x 1 0) e)))
 
-module _ {l : List ℕ} (b : Puts l) (mx : Spells (bytes "ST %MX") [] 0 255 l N.Nothing) (qx : Spells (bytes "ST %QX") [] 1 64 l N.Nothing) (on : Spells (bytes "ST T") (bytes ".IN") 1 32 l N.Nothing) (pt : Spells (bytes "ST T") (bytes ".PT") 1 32 l N.Nothing) where
+module _ {l : List ℕ} (b : Puts l) (mx : Spells (bytes "ST %MX") [] 0 255 l None) (qx : Spells (bytes "ST %QX") [] 1 64 l None) (on : Spells (bytes "ST T") (bytes ".IN") 1 32 l None) (pt : Spells (bytes "ST T") (bytes ".PT") 1 32 l None) where
   put_none : (o : Operand) → (flip_flop_fits o || output_fits o || parameter_fits o) ≡ true → bytes "ST " ++ operand_text o ≡ l → ⊥
   unfolding flip_flop_fits output_fits parameter_fits operand_text
   put_none (Mx n) f e = mx n (omega arith) (leb-true n 255 (or_right (leb n 255) (or_right (leb n 255 || false) f))) (ap (λ x. bytes "ST %MX" ++ x) (append-nil (decimal n)) ∙ e)
@@ -306,7 +304,7 @@ module _ {l : List ℕ} (b : Puts l) (mx : Spells (bytes "ST %MX") [] 0 255 l N.
 
 -- ---- any other line
 
-module _ {l : List ℕ} (b : Others l) (or : bytes "OR(" ≡ l → ⊥) (close : bytes ")" ≡ l → ⊥) (call : Spells (bytes "CAL T") [] 1 32 l N.Nothing) (block : Spells (bytes "T") (bytes " : TON;") 1 32 l N.Nothing)
+module _ {l : List ℕ} (b : Others l) (or : bytes "OR(" ≡ l → ⊥) (close : bytes ")" ≡ l → ⊥) (call : Spells (bytes "CAL T") [] 1 32 l None) (block : Spells (bytes "T") (bytes " : TON;") 1 32 l None)
     (var : bytes "VAR" ≡ l → ⊥) (endVar : bytes "END_VAR" ≡ l → ⊥) (header : bytes "PROGRAM CHART" ≡ l → ⊥) (end : bytes "END_PROGRAM" ≡ l → ⊥) where
   no_call : (o : Operand) → block_fits o ≡ true → bytes "CAL " ++ operand_text o ≡ l → ⊥
   unfolding block_fits operand_text

@@ -8,24 +8,22 @@ ghost use Rattle.read_line.specs.Forms.{Puts, Stores, Others};
 
 use format::Line;
 use meaning::{Operand, Operator};
-use read_decimals::Number;
-use read_operands::Named;
 
 // ST, "on %MX or %QX", and the stores of a timer rung.
 fn put_of(s: &[u8]) -> Line
     requires { Puts s.now }
     ensures { result ≡ said s.now }
 {
-    if let Number::Is(n) = read_decimals::numbered(s, b"ST %MX", b"", 0, 255) {
+    if let Some(n) = read_decimals::numbered(s, b"ST %MX", b"", 0, 255) {
         return Line::Says(Operator::St(Operand::Mx(n as u16)));
     }
-    if let Number::Is(n) = read_decimals::numbered(s, b"ST %QX", b"", 1, 64) {
+    if let Some(n) = read_decimals::numbered(s, b"ST %QX", b"", 1, 64) {
         return Line::Says(Operator::St(Operand::Qx(n as u16)));
     }
-    if let Number::Is(n) = read_decimals::numbered(s, b"ST T", b".IN", 1, 32) {
+    if let Some(n) = read_decimals::numbered(s, b"ST T", b".IN", 1, 32) {
         return Line::Says(Operator::St(Operand::TimerIn(n as u16)));
     }
-    if let Number::Is(n) = read_decimals::numbered(s, b"ST T", b".PT", 1, 32) {
+    if let Some(n) = read_decimals::numbered(s, b"ST T", b".PT", 1, 32) {
         return Line::Says(Operator::St(Operand::TimerPt(n as u16)));
     }
     Line::Unknown
@@ -36,16 +34,13 @@ fn store_of(s: &[u8]) -> Line
     requires { Stores s.now }
     ensures { result ≡ said s.now }
 {
-    if s.len() <= 1 {
-        return Line::Unknown;
-    }
-    if s[1] == 84 {
+    if let [_, b'T', ..] = s {
         return put_of(s);
     }
-    if let Number::Is(n) = read_decimals::numbered(s, b"S %MX", b"", 0, 255) {
+    if let Some(n) = read_decimals::numbered(s, b"S %MX", b"", 0, 255) {
         return Line::Says(Operator::S(Operand::Mx(n as u16)));
     }
-    if let Number::Is(n) = read_decimals::numbered(s, b"R %MX", b"", 0, 255) {
+    if let Some(n) = read_decimals::numbered(s, b"R %MX", b"", 0, 255) {
         return Line::Says(Operator::R(Operand::Mx(n as u16)));
     }
     Line::Unknown
@@ -56,19 +51,16 @@ fn and_of(s: &[u8]) -> Line
     requires { get_or s.now 0 0 ≡ 65 }
     ensures { result ≡ said s.now }
 {
-    if s.len() <= 3 {
-        return Line::Unknown;
+    if let [_, _, _, b'N', ..] = s {
+        return match read_operands::test_after(s, b"ANDN ") {
+            Some(o) => Line::Says(Operator::Andn(o)),
+            None => Line::Unknown,
+        };
     }
-    if s[3] == 78 {
-        if let Named::Is(o) = read_operands::test_after(s, b"ANDN ") {
-            return Line::Says(Operator::Andn(o));
-        }
-        return Line::Unknown;
+    match read_operands::test_after(s, b"AND ") {
+        Some(o) => Line::Says(Operator::And(o)),
+        None => Line::Unknown,
     }
-    if let Named::Is(o) = read_operands::test_after(s, b"AND ") {
-        return Line::Says(Operator::And(o));
-    }
-    Line::Unknown
 }
 
 // LD and LDN, by the third byte. "TRUE and FALSE after LD only"; "Times are 1 to 86,400,000 ms."
@@ -76,16 +68,13 @@ fn load_of(s: &[u8]) -> Line
     requires { get_or s.now 0 0 ≡ 76 }
     ensures { result ≡ said s.now }
 {
-    if s.len() <= 2 {
-        return Line::Unknown;
+    if let [_, _, b'N', ..] = s {
+        return match read_operands::test_after(s, b"LDN ") {
+            Some(o) => Line::Says(Operator::Ldn(o)),
+            None => Line::Unknown,
+        };
     }
-    if s[2] == 78 {
-        if let Named::Is(o) = read_operands::test_after(s, b"LDN ") {
-            return Line::Says(Operator::Ldn(o));
-        }
-        return Line::Unknown;
-    }
-    if let Named::Is(o) = read_operands::test_after(s, b"LD ") {
+    if let Some(o) = read_operands::test_after(s, b"LD ") {
         return Line::Says(Operator::Ld(o));
     }
     if read_decimals::same(s, b"LD FALSE") {
@@ -94,7 +83,7 @@ fn load_of(s: &[u8]) -> Line
     if read_decimals::same(s, b"LD TRUE") {
         return Line::Says(Operator::Ld(Operand::True));
     }
-    if let Number::Is(n) = read_decimals::numbered(s, b"LD T#", b"ms", 1, 86400000) {
+    if let Some(n) = read_decimals::numbered(s, b"LD T#", b"ms", 1, 86400000) {
         return Line::Says(Operator::LdTime(n));
     }
     Line::Unknown
@@ -111,10 +100,10 @@ fn other_of(s: &[u8]) -> Line
     if read_decimals::same(s, b")") {
         return Line::Says(Operator::Close);
     }
-    if let Number::Is(n) = read_decimals::numbered(s, b"CAL T", b"", 1, 32) {
+    if let Some(n) = read_decimals::numbered(s, b"CAL T", b"", 1, 32) {
         return Line::Says(Operator::Cal(Operand::Timer(n as u16)));
     }
-    if let Number::Is(n) = read_decimals::numbered(s, b"T", b" : TON;", 1, 32) {
+    if let Some(n) = read_decimals::numbered(s, b"T", b" : TON;", 1, 32) {
         return Line::Block(n as u16);
     }
     if read_decimals::same(s, b"VAR") {
@@ -136,14 +125,10 @@ fn other_of(s: &[u8]) -> Line
 pub fn line_of(s: &[u8]) -> Line
     ensures { result ≡ said s.now }
 {
-    if s.len() == 0 {
-        return Line::Unknown;
-    }
-    let a = s[0];
-    match a {
-        65 => and_of(s),
-        76 => load_of(s),
-        82..=83 => store_of(s),
+    match s {
+        [b'A', ..] => and_of(s),
+        [b'L', ..] => load_of(s),
+        [b'R' | b'S', ..] => store_of(s),
         _ => other_of(s),
     }
 }

@@ -1,5 +1,5 @@
 -- The operands of tests, one by one, and what stands behind a head.
-use Rattle.std.specs.Prelude.{◌≡◌, ℕ, ◌≤◌, Bool, List, [], ◌++◌, length, take, drop}
+use Rattle.std.specs.Prelude.{◌≡◌, ℕ, ◌≤◌, Bool, List, [], ◌++◌, length, take, drop, Some, None, Option}
 use Rattle.std.proofs.Common.{sym, ap₂, ◌∙◌, arith, append-nil, length-append, take-append-drop, le-leb, leb-true}
 use Rattle.std.proofs.Math.Path.{ap}
 use Rattle.std.proofs.Math.Bool.{false≢true}
@@ -9,27 +9,24 @@ use Rattle.meaning.specs.declared.Operand.{Operand}
 use Rattle.meaning.specs.declared.Operand.TheVariants.{Mx, Ix, Qx, TimerQ, TimerIn, TimerPt, Timer, False, True}
 use Rattle.format.specs.Text.{bytes, decimal, operand_text}
 use Rattle.format.proofs.Laws.Decode.{within, in_range}
-use Rattle.read_decimals.specs.declared.Number.TheVariants as N
 use Rattle.read_decimals.specs.Forms.{Spells}
-use Rattle.read_operands.specs.declared.Named.{Named}
-use Rattle.read_operands.specs.declared.Named.TheVariants as O
 use Rattle.read_operands.specs.Names.{Names}
 
 module _ {l : List ℕ} {n : ℕ} where
-  pub tests_mx : Spells (bytes "%MX") [] 0 255 l (N.Is n) → Names [] (testable 32) l (O.Is (Mx n))
+  pub tests_mx : Spells (bytes "%MX") [] 0 255 l (Some n) → Names [] (testable 32) l (Some (Mx n))
   unfolding testable operand_text
   tests_mx s = (le-leb n 255 s.1, ap (λ x. bytes "%MX" ++ x) (sym (append-nil (decimal n))) ∙ s.2)
 
-  pub tests_ix : Spells (bytes "%IX") [] 1 64 l (N.Is n) → Names [] (testable 32) l (O.Is (Ix n))
+  pub tests_ix : Spells (bytes "%IX") [] 1 64 l (Some n) → Names [] (testable 32) l (Some (Ix n))
   unfolding testable operand_text
   tests_ix s = (in_range 1 64 n s.0 s.1, ap (λ x. bytes "%IX" ++ x) (sym (append-nil (decimal n))) ∙ s.2)
 
-  pub tests_q : Spells (bytes "T") (bytes ".Q") 1 32 l (N.Is n) → Names [] (testable 32) l (O.Is (TimerQ n))
+  pub tests_q : Spells (bytes "T") (bytes ".Q") 1 32 l (Some n) → Names [] (testable 32) l (Some (TimerQ n))
   unfolding testable operand_text
   tests_q s = (in_range 1 32 n s.0 s.1, s.2)
 
-module _ {l : List ℕ} (mx : Spells (bytes "%MX") [] 0 255 l N.Nothing) (ix : Spells (bytes "%IX") [] 1 64 l N.Nothing) (q : Spells (bytes "T") (bytes ".Q") 1 32 l N.Nothing) where
-  pub tests_none : Names [] (testable 32) l O.Nothing
+module _ {l : List ℕ} (mx : Spells (bytes "%MX") [] 0 255 l None) (ix : Spells (bytes "%IX") [] 1 64 l None) (q : Spells (bytes "T") (bytes ".Q") 1 32 l None) where
+  pub tests_none : Names [] (testable 32) l None
   unfolding testable operand_text
   tests_none (Mx n) f e = mx n (omega arith) (leb-true n 255 f) (ap (λ x. bytes "%MX" ++ x) (append-nil (decimal n)) ∙ e)
   tests_none (Ix n) f e = ix n (within 1 64 n f).0 (within 1 64 n f).1 (ap (λ x. bytes "%IX" ++ x) (append-nil (decimal n)) ∙ e)
@@ -43,9 +40,9 @@ module _ {l : List ℕ} (mx : Spells (bytes "%MX") [] 0 255 l N.Nothing) (ix : S
 
 -- ---- behind a head
 
-pub names_part : (head l : List ℕ) (passes : Operand → Bool) (r : Named) → head ≡ take (length head) l → Names [] passes (drop (length head) l) r → Names head passes l r
-names_part head l passes (O.Is o) h s = (s.0, ap₂ ◌++◌ h s.1 ∙ take-append-drop (length head) l)
-names_part head l passes O.Nothing h s = λ o f e. s o f (sym (ap (drop (length head)) (sym e) ∙ drop-append_seam head (operand_text o)))
+pub names_part : (head l : List ℕ) (passes : Operand → Bool) (r : (Option Operand)) → head ≡ take (length head) l → Names [] passes (drop (length head) l) r → Names head passes l r
+names_part head l passes (Some o) h s = (s.0, ap₂ ◌++◌ h s.1 ∙ take-append-drop (length head) l)
+names_part head l passes None h s = λ o f e. s o f (sym (ap (drop (length head)) (sym e) ∙ drop-append_seam head (operand_text o)))
 
 -- what begins with a head
 pub begins : (head x l : List ℕ) → head ++ x ≡ l → (length head ≤ length l) × (head ≡ take (length head) l)

@@ -1,5 +1,5 @@
 -- No second answer of which operand bytes name.
-use Rattle.std.specs.Prelude.{◌≡◌, refl, ℕ, true, List, ◌++◌, length, drop}
+use Rattle.std.specs.Prelude.{◌≡◌, refl, ℕ, true, List, ◌++◌, length, drop, Some, None}
 use Rattle.std.proofs.Common.{sym, ap, ◌∙◌}
 use Rattle.std.proofs.Math.Seq.{drop-append_seam}
 use Rattle.meaning.specs.Once.{Once}
@@ -13,7 +13,6 @@ use Rattle.format.specs.Text.{bytes, operand_text, operator_text}
 use Rattle.format.specs.Decode.{operator_fits}
 use Rattle.format.specs.Automata.Lines.{line_text, line_fits, said}
 use Rattle.format.proofs.Laws.Lines.{said_is}
-use Rattle.read_operands.specs.declared.Named.TheVariants as O
 use Rattle.read_operands.specs.Names.{Names}
 
 -- what the instruction of a line carries
@@ -39,7 +38,7 @@ one_behind : (head l x y : List ℕ) → head ++ x ≡ l → head ++ y ≡ l →
 one_behind head l x y e f = sym (drop-append_seam head x) ∙ ap (drop (length head)) (e ∙ sym f) ∙ drop-append_seam head y
 
 pub test_after_once : (s head : List ℕ) → Once (λ r. Names head (testable 32) s r)
-test_after_once s head (O.Is o) (O.Is q) x y = ap O.Is (one_operand o q x.0 y.0 (one_behind head s (operand_text o) (operand_text q) x.1 y.1))
-test_after_once s head (O.Is o) O.Nothing x y = absurd (y o x.0 x.1)
-test_after_once s head O.Nothing (O.Is q) x y = absurd (x q y.0 y.1)
-test_after_once s head O.Nothing O.Nothing x y = refl
+test_after_once s head (Some o) (Some q) x y = ap Some (one_operand o q x.0 y.0 (one_behind head s (operand_text o) (operand_text q) x.1 y.1))
+test_after_once s head (Some o) None x y = absurd (y o x.0 x.1)
+test_after_once s head None (Some q) x y = absurd (x q y.0 y.1)
+test_after_once s head None None x y = refl

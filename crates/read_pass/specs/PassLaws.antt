@@ -1,5 +1,5 @@
 -- What the loop over the lines keeps, and that a pass has one outcome only.
-use Rattle.std.specs.Prelude.{◌≡◌, refl, ℕ, ◌+◌, ◌-◌, ◌%◌, ◌≤◌, ◌<◌, true, false, take, drop, set}
+use Rattle.std.specs.Prelude.{◌≡◌, refl, ℕ, ◌+◌, ◌-◌, ◌%◌, ◌≤◌, ◌<◌, true, false, take, drop, set, Ok, Err, Result}
 use Rattle.std.proofs.Math.Path.{sym, ap}
 use Rattle.std.proofs.Common.{ap₂, ◌∙◌, zero-add, add-one, arith, length-append, take-add, drop_at, length-take-le}
 use Rattle.std.proofs.lemmas.Bool.{false≢true}
@@ -25,8 +25,6 @@ use Rattle.format.specs.Automata.Lines.{page_stands, over}
 use Rattle.format.proofs.Laws.Words.{place_same}
 use Rattle.format.proofs.Laws.Text.{spoken, text_same, said_known}
 use Rattle.format.proofs.Laws.TextReader.{Taken, taken_refused, taken_unfinished, taken_over, slice_one_line, drop_one_line, taken_line}
-use Rattle.read_pass.specs.declared.PassEnd.{PassEnd}
-use Rattle.read_pass.specs.declared.PassEnd.TheVariants.{Over, Stopped}
 use Rattle.read_pass.specs.Passes.{LineEnd, words_counted, placed, TextPassed, Pass}
 
 -- ---- words
@@ -153,8 +151,8 @@ module _ {l entry : List ℕ} {b : ℕ} {s : Page} {n : ℕ} {o : List ℕ} (q :
 
 -- ---- no second outcome
 
-pub pass_same : (l entry x y : List ℕ) (r q : PassEnd) → Pass l entry r x → Pass l entry q y → r ≡ q
-pass_same l entry x y (Over n) (Over m) p q = ap Over (p.count ∙ ap (λ g. length (words g)) (text_same p.program q.program p.fitting q.fitting (p.listing ∙ sym q.listing)) ∙ sym q.count)
-pass_same l entry x y (Over n) (Stopped k) p q = absurd (q.refused (p.program, p.fitting, p.listing))
-pass_same l entry x y (Stopped k) (Over n) p q = absurd (p.refused (q.program, q.fitting, q.listing))
-pass_same l entry x y (Stopped k) (Stopped j) p q = ap Stopped (place_same AcceptedText (WholeLines l) l k j p q)
+pub pass_same : (l entry x y : List ℕ) (r q : Result ℕ ℕ) → Pass l entry r x → Pass l entry q y → r ≡ q
+pass_same l entry x y (Ok n) (Ok m) p q = ap Ok (p.count ∙ ap (λ g. length (words g)) (text_same p.program q.program p.fitting q.fitting (p.listing ∙ sym q.listing)) ∙ sym q.count)
+pass_same l entry x y (Ok n) (Err k) p q = absurd (q.refused (p.program, p.fitting, p.listing))
+pass_same l entry x y (Err k) (Ok n) p q = absurd (p.refused (q.program, q.fitting, q.listing))
+pass_same l entry x y (Err k) (Err j) p q = ap Err (place_same AcceptedText (WholeLines l) l k j p q)

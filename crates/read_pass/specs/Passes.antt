@@ -1,5 +1,5 @@
 -- What a pass over a text, line after line, comes to.
-use Rattle.std.specs.Prelude.{◌≡◌, ℕ, ◌+◌, ◌%◌, ◌≤◌, ◌<◌, true, List, length, get_or, set}
+use Rattle.std.specs.Prelude.{◌≡◌, ℕ, ◌+◌, ◌%◌, ◌≤◌, ◌<◌, true, List, length, get_or, set, Ok, Err, Result}
 use Rattle.std.proofs.lemmas.List.Edits.{sets}
 use Rattle.meaning.specs.Programs.{Program, program_fits}
 use Rattle.format.specs.declared.Line.{Line}
@@ -7,8 +7,6 @@ use Rattle.format.specs.declared.Line.TheVariants.{Header, Var, Block, EndVar, S
 use Rattle.format.specs.Words.{word, words}
 use Rattle.format.specs.Text.{text}
 use Rattle.format.specs.Places.{TextPlace}
-use Rattle.read_pass.specs.declared.PassEnd.{PassEnd}
-use Rattle.read_pass.specs.declared.PassEnd.TheVariants.{Over, Stopped}
 
 -- from is where a line begins: its LF, or the end of the text
 pub record LineEnd (l : List ℕ) (from to : ℕ) : Type 0 where
@@ -47,6 +45,6 @@ pub record TextPassed (l entry : List ℕ) (n : ℕ) (exit : List ℕ) : Type 0 
   pub list : exit ≡ sets entry 0 (words program)
 
 -- that, or the place where it stops
-abbrev pub Pass : List ℕ → List ℕ → PassEnd → List ℕ → Type 0
-Pass l entry (Over n) exit = TextPassed l entry n exit
-Pass l entry (Stopped k) exit = TextPlace l k
+abbrev pub Pass : List ℕ → List ℕ → Result ℕ ℕ → List ℕ → Type 0
+Pass l entry (Ok n) exit = TextPassed l entry n exit
+Pass l entry (Err k) exit = TextPlace l k

@@ -13,14 +13,12 @@ fn line_end(text: &[u8], from: usize) -> usize
     requires { from ≤ length text.now }
     ensures { LineEnd text.now from result }
 {
-    let mut e = from;
-    while e < text.len() {
-        if text[e] == 10 {
+    for e in from..text.len() {
+        if text[e] == b'\n' {
             return e;
         }
-        e += 1;
     }
-    e
+    text.len()
 }
 
 // The word of an instruction, where there is room for it; it counts in any case.
@@ -30,7 +28,6 @@ fn put_word(out: &mut [u32], n: usize, i: Operator) -> usize
 {
     if n < out.len() {
         out[n] = word_encode::encode(i);
-        return n + 1;
     }
     n + 1
 }
@@ -40,46 +37,35 @@ fn put_line(out: &mut [u32], n: usize, l: Line) -> usize
     ensures { (result ≡ words_counted n l) × (out.new ≡ placed out.old n l) }
 {
     match l {
-        Line::Header => n,
-        Line::Var => n,
-        Line::Block(_) => n,
-        Line::EndVar => n,
         Line::Says(i) => put_word(out, n, i),
-        Line::EndProgram => n,
-        Line::Unknown => n,
+        _ => n,
     }
 }
 
-// What a pass comes to: the words of a whole text, or the place of TEXT.
-#[derive(Clone, Copy)]
-pub enum PassEnd {
-    Over(usize),
-    Stopped(usize),
-}
-
-// One pass over the lines: it measures over an empty part, and writes over one with room.
-pub fn pass(text: &[u8], out: &mut [u32]) -> PassEnd
+// One pass over the lines: the words of a whole text, or the place of TEXT. It measures over an empty part, and writes
+// over one with room.
+pub fn pass(text: &[u8], out: &mut [u32]) -> Result<usize, usize>
     ensures { Pass text.now out.old result out.new }
 {
     let mut p = read_page::first();
     let mut from = 0;
     let mut n = 0;
+    // the place jumps from line to line, so this is no `for`
     while from < text.len() {
         let to = line_end(text, from);
         if to == text.len() {
-            return PassEnd::Stopped(from); // a line ends in LF
+            return Err(from); // a line ends in LF
         }
         let l = read_line::line_of(&text[from..to]);
         p = read_page::turn(p, l);
-        if read_page::stands(p) {
-            n = put_line(out, n, l);
-            from = to + 1;
-        } else {
-            return PassEnd::Stopped(from);
+        if !read_page::stands(p) {
+            return Err(from);
         }
+        n = put_line(out, n, l);
+        from = to + 1;
     }
-    if read_page::is_over(p) {
-        return PassEnd::Over(n);
+    if !read_page::is_over(p) {
+        return Err(from); // lines are missing at the end
     }
-    PassEnd::Stopped(from)
+    Ok(n)
 }

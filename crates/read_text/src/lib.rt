@@ -4,30 +4,15 @@
 ghost use Rattle.read_text.specs.Reads.{TextRead};
 
 use meaning::Refusal;
-use read_pass::PassEnd;
 
-// What the reader answers: how many words it wrote, or why it wrote none.
-#[derive(Clone, Copy)]
-pub enum TextAnswer {
-    Read(usize),
-    Refused(Refusal),
-}
-
-// The words of the instructions of an accepted text, from the front of out.
-pub fn read(text: &[u8], out: &mut [u32]) -> TextAnswer
+// The words of the instructions of an accepted text, from the front of out. They are counted over no words first: "A
+// refusal writes nothing."
+pub fn read(text: &[u8], out: &mut [u32]) -> Result<usize, Refusal>
     ensures { TextRead text.now out.old result out.new }
 {
-    let room = out.len();
-    let none = 0;
-    let measured = read_pass::pass(text, &mut out[..none]);
-    match measured {
-        PassEnd::Over(n) => {
-            if room < n {
-                return TextAnswer::Refused(Refusal::Room(n));
-            }
-            read_pass::pass(text, out);
-            TextAnswer::Read(n)
-        }
-        PassEnd::Stopped(k) => TextAnswer::Refused(Refusal::Text(k)),
+    let n = read_pass::pass(text, &mut []).map_err(Refusal::Text)?;
+    if out.len() < n {
+        return Err(Refusal::Room(n));
     }
+    read_pass::pass(text, out).map_err(Refusal::Text)
 }

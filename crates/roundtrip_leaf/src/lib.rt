@@ -2,13 +2,14 @@
 #![tactic(auto)]
 
 ghost use Rattle.std.specs.Prelude.{◌≡◌, ◌<◌, ◌≤◌};
-ghost use Rattle.meaning.specs.Tables.{Tables, state_count};
+ghost use Rattle.meaning.specs.Tables.{state_count};
 ghost use Rattle.meaning.specs.Rules.{Rules};
 ghost use Rattle.meaning.specs.Stands.{code_at, coded_sub_state, coded_leaf};
 ghost use Rattle.layout.specs.Laid.{LaidOut};
+ghost use Rattle.tables.specs.Given.{given};
 
 use layout::Layout;
-use tables::Chart;
+use tables::{Chart, ChartTables};
 
 // The number whose bits stand in so many flip-flops, lowest first. No group is wider than 8.
 fn code_at(flip_flops: &[u8], first: u16, width: u8) -> usize
@@ -18,11 +19,9 @@ fn code_at(flip_flops: &[u8], first: u16, width: u8) -> usize
         return 0;
     }
     let mut code = 0;
-    let mut i = width as usize;
-    while 0 < i {
-        i -= 1;
+    for i in (0..usize::from(width)).rev() {
         code *= 2;
-        if il_values::flip_flop(flip_flops, (first as usize) + i) {
+        if il_values::flip_flop(flip_flops, usize::from(first) + i) {
             code += 1;
         }
     }
@@ -30,31 +29,28 @@ fn code_at(flip_flops: &[u8], first: u16, width: u8) -> usize
 }
 
 // The sub-state that the flip-flops give the super-state a.
-fn shown_sub_state(states: &[u16], laid: Layout, flip_flops: &[u8], a: usize) -> usize
-    ensures { (c : Tables) → c.states ≡ states.now → Rules c → LaidOut c laid → a < state_count c
-        → result ≡ coded_sub_state c flip_flops.now a }
+fn shown_sub_state(t: &ChartTables<'_>, layout: &Layout, flip_flops: &[u8], a: usize) -> usize
+    ensures { Rules (given t.now) → LaidOut (given t.now) layout.now → a < state_count (given t.now)
+        → result ≡ coded_sub_state (given t.now) flip_flops.now a }
 {
     if Chart::STATES <= a {
         return 0;
     }
-    let first = laid.first[a];
-    let width = laid.width[a];
-    layout::sub_with_code(states, a, code_at(flip_flops, first, width))
+    let code = code_at(flip_flops, layout.first[a], layout.width[a]);
+    layout::sub_with_code(t, a, code)
 }
 
 // The leaf that they lead to, where the states are laid out so: following from the root.
-pub fn laid_leaf(states: &[u16], laid: Layout, flip_flops: &[u8]) -> usize
-    ensures { (c : Tables) → c.states ≡ states.now → Rules c → LaidOut c laid
-        → (result ≡ coded_leaf c flip_flops.now) × (result ≤ 256) }
+pub fn laid_leaf(t: &ChartTables<'_>, layout: &Layout, flip_flops: &[u8]) -> usize
+    ensures { Rules (given t.now) → LaidOut (given t.now) layout.now
+        → (result ≡ coded_leaf (given t.now) flip_flops.now) × (result ≤ 256) }
 {
     let mut s = 0;
-    let mut k = 0;
-    while k < Chart::DEPTH {
-        if tables::initial(states, s) == 0 {
+    for k in 0..Chart::DEPTH {
+        if t.initial(s) == 0 {
             return s;
         }
-        s = shown_sub_state(states, laid, flip_flops, s);
-        k += 1;
+        s = shown_sub_state(t, layout, flip_flops, s);
     }
     s
 }

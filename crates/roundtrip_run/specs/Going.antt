@@ -29,10 +29,8 @@ use Rattle.chart_scan.specs.StepLaws.{ran_more}
 use Rattle.il_scan.specs.Scans.{controller_of, OneScan}
 use Rattle.roundtrip_run.specs.AsRead.{AsRead}
 
--- accepted tables with this scan step, these states and this layout, the words of their program, and cleared flip-flops
-pub record ProgramCleared (c : Tables) (d : ℕ) (ss : List ℕ) (l : Layout) (ws fs : List ℕ) : Type 0 where
-  pub step : c.scan_step ≡ d
-  pub states : c.states ≡ ss
+-- accepted tables with this layout, the words of their program, and cleared flip-flops
+pub record ProgramCleared (c : Tables) (l : Layout) (ws fs : List ℕ) : Type 0 where
   pub rules : Rules c
   pub laid : LaidOut c l
   pub list : words (program c) ≡ ws

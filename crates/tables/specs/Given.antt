@@ -3,6 +3,7 @@ use Rattle.std.specs.Prelude.{◌≡◌, List, ℕ, ◌/◌, length, ℤ}
 use Rattle.std.proofs.Common.{ap}
 use Rattle.meaning.specs.Tables.{Tables, move_row, state_count, move_count}
 use Rattle.tables.specs.declared.Chart.{Chart}
+use Rattle.tables.specs.declared.ChartTables.{ChartTables}
 
 -- the tables of a chart, as they are lent
 abbrev pub tables_of : Chart → List ℕ → List ℤ → List ℕ → List ℕ → List ℕ → Tables
@@ -16,6 +17,10 @@ tables_of chart states moves presets timer_pairs output_pairs = record {
   timer_pairs = timer_pairs;
   output_pairs = output_pairs;
 }
+
+-- the tables that are given
+abbrev pub given : ChartTables → Tables
+given t = tables_of t.chart t.states.now t.moves.now t.presets.now t.timer_pairs.now t.output_pairs.now
 
 -- what the slices say of a chart's tables, whatever its frame
 pub record Lent (c : Tables) (ss : List ℕ) (ms : List ℤ) (ps ts os : List ℕ) : Type 0 where

@@ -1,5 +1,5 @@
 -- Instructions by the two numbers of their word, operator k and operand m: which operands an operator takes, as ranges of numbers.
-use Rattle.std.specs.Prelude.{◌≡◌, ◌⊎◌, ℕ, ◌-◌, ◌≤◌, ◌<◌, true, false, cond, eqb}
+use Rattle.std.specs.Prelude.{◌≡◌, ◌⊎◌, ℕ, ◌-◌, ◌≤◌, ◌<◌, true, false, cond, eqb, Some, None}
 use Rattle.std.proofs.Math.Path.{refl}
 use Rattle.std.proofs.Common.{sym, ◌∙◌, inl, inr, arith}
 use Rattle.std.proofs.Math.Decide.{dec_le}
@@ -12,7 +12,6 @@ use Rattle.meaning.specs.declared.Operand.{Operand}
 use Rattle.meaning.specs.declared.Operand.TheVariants.{Mx, Ix, Qx, TimerQ, TimerIn, TimerPt, Timer, False, True}
 use Rattle.meaning.specs.declared.Operator.{Operator}
 use Rattle.meaning.specs.declared.Operator.TheVariants.{Ld, Ldn, And, Andn, St, S, R, Cal, LdTime}
-use Rattle.format.specs.declared.Decoded.TheVariants.{Known, Unknown}
 use Rattle.format.specs.Decode.{parameter_fits, block_fits, operator_fits, operand_of, kept, unpacked}
 use Rattle.format.proofs.Laws.Decode.{within, in_range}
 use Rattle.format.proofs.Laws.Operands.{operand_mx, operand_ix, operand_qx, operand_timer_q, operand_timer_in, operand_timer_pt, operand_timer}
@@ -61,11 +60,11 @@ never e = absurd (false≢true e)
 
 -- ---- kept or not
 
-pub decodes_known : (k m : ℕ) (i : Operator) → unpacked k m ≡ kept i → operator_fits i ≡ true → Known i ≡ unpacked k m
+pub decodes_known : (k m : ℕ) (i : Operator) → unpacked k m ≡ kept i → operator_fits i ≡ true → Some i ≡ unpacked k m
 unfolding kept
 decodes_known k m i e h = sym (e ∙ rw h)
 
-pub unknown : (k m : ℕ) (i : Operator) → unpacked k m ≡ kept i → (operator_fits i ≡ true → ⊥) → Unknown ≡ unpacked k m
+pub unknown : (k m : ℕ) (i : Operator) → unpacked k m ≡ kept i → (operator_fits i ≡ true → ⊥) → None ≡ unpacked k m
 unfolding kept
 unknown k m i e h = elim (which (operator_fits i)) [ inl f ↦ absurd (h f) | inr f ↦ sym (e ∙ rw f) ]
 
@@ -110,32 +109,32 @@ not_constant m a b =
     by_number m (λ o. constant o ≡ true → ⊥) (λ h e. never e) (λ h e. never e) (λ h e. never e) (λ h e. never e) (λ h e. never e) (λ h e. never e) (λ h e. never e) (λ h e. a h) (λ h e. b h) (λ e. never e)
 
 module _ {k : ℕ} {f : Operand → Operator} (t : TestOperator k f) (m : ℕ) where
-  tests : (o : Operand) → operand_of m ≡ o → testable 32 o ≡ true → Known (f o) ≡ unpacked k m
+  tests : (o : Operand) → operand_of m ≡ o → testable 32 o ≡ true → Some (f o) ≡ unpacked k m
   tests o e h = decodes_known k m (f o) (t.unpacks m ∙ rw e) (t.fits o h)
 
-  pub test_mx : m ≤ 255 → Known (f (Mx m)) ≡ unpacked k m
+  pub test_mx : m ≤ 255 → Some (f (Mx m)) ≡ unpacked k m
   unfolding testable
   test_mx h = tests (Mx m) (operand_mx m (omega arith)) (le-leb m 255 h)
 
-  pub test_ix : 384 < m → m ≤ 448 → Known (f (Ix (m - 384))) ≡ unpacked k m
+  pub test_ix : 384 < m → m ≤ 448 → Some (f (Ix (m - 384))) ≡ unpacked k m
   unfolding testable
   test_ix g h = tests (Ix (m - 384)) (operand_ix m g (omega arith)) (in_range 1 64 (m - 384) (omega arith) (omega arith))
 
-  pub test_q : 768 < m → m ≤ 800 → Known (f (TimerQ (m - 768))) ≡ unpacked k m
+  pub test_q : 768 < m → m ≤ 800 → Some (f (TimerQ (m - 768))) ≡ unpacked k m
   unfolding testable
   test_q g h = tests (TimerQ (m - 768)) (operand_timer_q m g (omega arith)) (in_range 1 32 (m - 768) (omega arith) (omega arith))
 
-  pub test_none : 255 < m → (384 < m → 448 < m) → (768 < m → 800 < m) → (k ≡ 1 → m ≡ 2000 → ⊥) → (k ≡ 1 → m ≡ 2001 → ⊥) → Unknown ≡ unpacked k m
+  pub test_none : 255 < m → (384 < m → 448 < m) → (768 < m → 800 < m) → (k ≡ 1 → m ≡ 2000 → ⊥) → (k ≡ 1 → m ≡ 2001 → ⊥) → None ≡ unpacked k m
   test_none a b c d e = unknown k m (f (operand_of m)) (t.unpacks m) λ h. elim (t.only (operand_of m) h) [
     | inl g ↦ untested m a b c g
     | inr g ↦ not_constant m (d g.0) (e g.0) g.1
   ]
 
-pub ld_false : Known (Ld False) ≡ unpacked 1 2000
+pub ld_false : Some (Ld False) ≡ unpacked 1 2000
 unfolding unpacked operand_of kept operator_fits testable constant
 ld_false = refl
 
-pub ld_true : Known (Ld True) ≡ unpacked 1 2001
+pub ld_true : Some (Ld True) ≡ unpacked 1 2001
 unfolding unpacked operand_of kept operator_fits testable constant
 ld_true = refl
 
@@ -152,26 +151,26 @@ module _ (m : ℕ) where
   unfolding unpacked
   st_is = refl
 
-  stores : (o : Operand) → operand_of m ≡ o → operator_fits (St o) ≡ true → Known (St o) ≡ unpacked 7 m
+  stores : (o : Operand) → operand_of m ≡ o → operator_fits (St o) ≡ true → Some (St o) ≡ unpacked 7 m
   stores o e h = decodes_known 7 m (St o) (st_is ∙ rw e) h
 
-  pub st_mx : m ≤ 255 → Known (St (Mx m)) ≡ unpacked 7 m
+  pub st_mx : m ≤ 255 → Some (St (Mx m)) ≡ unpacked 7 m
   unfolding operator_fits flip_flop_fits
   st_mx h = stores (Mx m) (operand_mx m (omega arith)) (rw (le-leb m 255 h))
 
-  pub st_qx : 512 < m → m ≤ 576 → Known (St (Qx (m - 512))) ≡ unpacked 7 m
+  pub st_qx : 512 < m → m ≤ 576 → Some (St (Qx (m - 512))) ≡ unpacked 7 m
   unfolding operator_fits flip_flop_fits output_fits
   st_qx g h = stores (Qx (m - 512)) (operand_qx m g (omega arith)) (rw (in_range 1 64 (m - 512) (omega arith) (omega arith)))
 
-  pub st_in : 1024 < m → m ≤ 1056 → Known (St (TimerIn (m - 1024))) ≡ unpacked 7 m
+  pub st_in : 1024 < m → m ≤ 1056 → Some (St (TimerIn (m - 1024))) ≡ unpacked 7 m
   unfolding operator_fits flip_flop_fits output_fits parameter_fits
   st_in g h = stores (TimerIn (m - 1024)) (operand_timer_in m g (omega arith)) (rw (in_range 1 32 (m - 1024) (omega arith) (omega arith)))
 
-  pub st_pt : 1280 < m → m ≤ 1312 → Known (St (TimerPt (m - 1280))) ≡ unpacked 7 m
+  pub st_pt : 1280 < m → m ≤ 1312 → Some (St (TimerPt (m - 1280))) ≡ unpacked 7 m
   unfolding operator_fits flip_flop_fits output_fits parameter_fits
   st_pt g h = stores (TimerPt (m - 1280)) (operand_timer_pt m g (omega arith)) (rw (in_range 1 32 (m - 1280) (omega arith) (omega arith)))
 
-  pub st_none : 255 < m → (512 < m → 576 < m) → (1024 < m → 1056 < m) → (1280 < m → 1312 < m) → Unknown ≡ unpacked 7 m
+  pub st_none : 255 < m → (512 < m → 576 < m) → (1024 < m → 1056 < m) → (1280 < m → 1312 < m) → None ≡ unpacked 7 m
   st_none a b c d = unknown 7 m (St (operand_of m)) st_is (unstored m a b c d)
 
 -- ---- S and R
@@ -196,11 +195,11 @@ unfolding unpacked operator_fits
 r = record { unpacks = λ m. refl; fits = λ o. refl }
 
 module _ {k : ℕ} {f : Operand → Operator} (t : Acts k f) (m : ℕ) where
-  pub act_mx : m ≤ 255 → Known (f (Mx m)) ≡ unpacked k m
+  pub act_mx : m ≤ 255 → Some (f (Mx m)) ≡ unpacked k m
   unfolding flip_flop_fits
   act_mx h = decodes_known k m (f (Mx m)) (t.unpacks m ∙ rw (operand_mx m (omega arith))) (t.fits (Mx m) ∙ le-leb m 255 h)
 
-  pub act_none : 255 < m → Unknown ≡ unpacked k m
+  pub act_none : 255 < m → None ≡ unpacked k m
   act_none h = unknown k m (f (operand_of m)) (t.unpacks m) λ e. omega (arith, h, flip_flop_in m (sym (t.fits (operand_of m)) ∙ e))
 
 -- ---- CAL and LD of a time
@@ -215,18 +214,84 @@ module _ (m : ℕ) where
   unfolding unpacked
   cal_is = refl
 
-  pub cal_timer : 1536 < m → m ≤ 1568 → Known (Cal (Timer (m - 1536))) ≡ unpacked 10 m
+  pub cal_timer : 1536 < m → m ≤ 1568 → Some (Cal (Timer (m - 1536))) ≡ unpacked 10 m
   unfolding operator_fits block_fits
   cal_timer g h = decodes_known 10 m (Cal (Timer (m - 1536))) (cal_is ∙ rw (operand_timer m g (omega arith))) (in_range 1 32 (m - 1536) (omega arith) (omega arith))
 
-  pub cal_none : (1536 < m → 1568 < m) → Unknown ≡ unpacked 10 m
+  pub cal_none : (1536 < m → 1568 < m) → None ≡ unpacked 10 m
   unfolding operator_fits
   cal_none h = unknown 10 m (Cal (operand_of m)) cal_is (not_called m h)
 
-  pub time_known : 1 ≤ m → m ≤ 86400000 → Known (LdTime m) ≡ unpacked 11 m
+  pub time_known : 1 ≤ m → m ≤ 86400000 → Some (LdTime m) ≡ unpacked 11 m
   unfolding unpacked operator_fits
   time_known g h = decodes_known 11 m (LdTime m) refl (in_range 1 86400000 m g h)
 
-  pub time_none : (0 < m → 86400000 < m) → Unknown ≡ unpacked 11 m
+  pub time_none : (0 < m → 86400000 < m) → None ≡ unpacked 11 m
   unfolding unpacked operator_fits
   time_none h = unknown 11 m (LdTime m) refl λ e. (let g = within 1 86400000 m e in omega (arith, h g.0, g.1))
+
+-- ---- by operator and range, as the decoder's arms are
+
+module _ (m : ℕ) where
+  pub ld_mx : m ≤ 255 → Some (Ld (Mx m)) ≡ unpacked 1 m
+  ld_mx = test_mx ld m
+
+  pub ld_ix : 384 < m → m ≤ 448 → Some (Ld (Ix (m - 384))) ≡ unpacked 1 m
+  ld_ix = test_ix ld m
+
+  pub ld_q : 768 < m → m ≤ 800 → Some (Ld (TimerQ (m - 768))) ≡ unpacked 1 m
+  ld_q = test_q ld m
+
+  pub ld_none : 255 < m → (384 < m → 448 < m) → (768 < m → 800 < m) → (m ≡ 2000 → ⊥) → (m ≡ 2001 → ⊥) → None ≡ unpacked 1 m
+  ld_none a b c d e = test_none ld m a b c (λ p. d) (λ p. e)
+
+  pub ldn_mx : m ≤ 255 → Some (Ldn (Mx m)) ≡ unpacked 2 m
+  ldn_mx = test_mx ldn m
+
+  pub ldn_ix : 384 < m → m ≤ 448 → Some (Ldn (Ix (m - 384))) ≡ unpacked 2 m
+  ldn_ix = test_ix ldn m
+
+  pub ldn_q : 768 < m → m ≤ 800 → Some (Ldn (TimerQ (m - 768))) ≡ unpacked 2 m
+  ldn_q = test_q ldn m
+
+  pub ldn_none : 255 < m → (384 < m → 448 < m) → (768 < m → 800 < m) → None ≡ unpacked 2 m
+  ldn_none a b c = test_none ldn m a b c (λ e g. omega (arith, e)) (λ e g. omega (arith, e))
+
+  pub and_mx : m ≤ 255 → Some (And (Mx m)) ≡ unpacked 3 m
+  and_mx = test_mx and m
+
+  pub and_ix : 384 < m → m ≤ 448 → Some (And (Ix (m - 384))) ≡ unpacked 3 m
+  and_ix = test_ix and m
+
+  pub and_q : 768 < m → m ≤ 800 → Some (And (TimerQ (m - 768))) ≡ unpacked 3 m
+  and_q = test_q and m
+
+  pub and_none : 255 < m → (384 < m → 448 < m) → (768 < m → 800 < m) → None ≡ unpacked 3 m
+  and_none a b c = test_none and m a b c (λ e g. omega (arith, e)) (λ e g. omega (arith, e))
+
+  pub andn_mx : m ≤ 255 → Some (Andn (Mx m)) ≡ unpacked 4 m
+  andn_mx = test_mx andn m
+
+  pub andn_ix : 384 < m → m ≤ 448 → Some (Andn (Ix (m - 384))) ≡ unpacked 4 m
+  andn_ix = test_ix andn m
+
+  pub andn_q : 768 < m → m ≤ 800 → Some (Andn (TimerQ (m - 768))) ≡ unpacked 4 m
+  andn_q = test_q andn m
+
+  pub andn_none : 255 < m → (384 < m → 448 < m) → (768 < m → 800 < m) → None ≡ unpacked 4 m
+  andn_none a b c = test_none andn m a b c (λ e g. omega (arith, e)) (λ e g. omega (arith, e))
+
+  pub s_mx : m ≤ 255 → Some (S (Mx m)) ≡ unpacked 8 m
+  s_mx = act_mx s m
+
+  pub s_none : 255 < m → None ≡ unpacked 8 m
+  s_none = act_none s m
+
+  pub r_mx : m ≤ 255 → Some (R (Mx m)) ≡ unpacked 9 m
+  r_mx = act_mx r m
+
+  pub r_none : 255 < m → None ≡ unpacked 9 m
+  r_none = act_none r m
+
+-- what each operator makes of its operands
+pub ruleset by_operator = (ld_mx, ld_ix, ld_q, ld_none, ldn_mx, ldn_ix, ldn_q, ldn_none, and_mx, and_ix, and_q, and_none, andn_mx, andn_ix, andn_q, andn_none, s_mx, s_none, r_mx, r_none, ld_false, ld_true, st_mx, st_qx, st_in, st_pt, st_none, cal_timer, cal_none, time_known, time_none)

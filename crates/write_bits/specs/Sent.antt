@@ -60,10 +60,6 @@ bit_at base w b = test w (Mx (base + b))
 unfoldable pub literals_to : Tables → ℕ → ℕ → List Test
 literals_to c i n = flat_map (λ z. kind_test c (wanted z) (kind_of (nat_abs z))) (table (literal c i) 0 n)
 
--- a layout from its parts
-abbrev pub laid : List ℕ → List ℕ → List ℕ → ℕ → Layout
-laid f w k t = record { first = f; width = w; code = k; total = t }
-
 -- the first k states from s up, none of them the root, and the next, t
 abbrev pub Rises : Tables → ℕ → List ℕ → ℕ → ℕ → Type 0
 Rises c s ps k t = (t ≡ up c k s) × ((j : ℕ) → j < k → (get_or ps j 0 ≡ up c j s) × (up c j s ≢ 0))
@@ -73,8 +69,7 @@ pub record Risen (c : Tables) (s : ℕ) (ps : List ℕ) (k : ℕ) : Type 0 where
   pub deep : k ≡ depth c s
   pub path : (j : ℕ) → j ≤ k → get_or ps j 0 ≡ up c j s
 
--- tables with these states and this layout, that keep the rules
-pub record LaidTables (c : Tables) (ss : List ℕ) (l : Layout) : Type 0 where
-  pub states : c.states ≡ ss
+-- tables with this layout, that keep the rules
+pub record LaidTables (c : Tables) (l : Layout) : Type 0 where
   pub laid : LaidOut c l
   pub rules : Rules c

@@ -135,7 +135,7 @@ pub state_tests_lem : (c : Tables) (s : ℕ) → path_bits c (bit_at 0) (depth c
 unfolding state_tests
 state_tests_lem c s = ap (λ f. path_bits c f (depth c s) s) (bit_test_lem c)
 
-after_store : (ts : List Test) → way_after Store ts ≡ Store
+pub after_store : (ts : List Test) → way_after Store ts ≡ Store
 unfolding way_after
 after_store [] = refl
 after_store (t ∷ ts) = after_store ts

@@ -3,12 +3,14 @@ use Rattle.std.specs.Prelude.{◌≡◌, List, ℕ, ◌+◌}
 use Rattle.std.proofs.Common.{sym, ◌∙◌, arith}
 use Rattle.std.proofs.Math.Decide.{dec_le}
 use Rattle.meaning.specs.Once.{Once}
-use Rattle.meaning.specs.Tables.{Tables}
+use Rattle.tables.specs.declared.ChartTables.{ChartTables}
+use Rattle.tables.specs.Given.{given}
+use Rattle.layout.specs.declared.Layout.{Layout}
 use Rattle.meaning.specs.Programs.{body_of}
 use Rattle.meaning.specs.Written.{pairs_body}
 use Rattle.write_lines.specs.Fit.{PutIfRoom}
 use Rattle.write_lines.specs.Once.{RoomFor}
-use Rattle.write_bits.specs.Sent.{lines, laid, LaidTables}
+use Rattle.write_bits.specs.Sent.{lines, LaidTables}
 use Rattle.write_bodies.specs.declared.Cursor.{Cursor}
 use Rattle.write_bodies.specs.Pairs.{Pairs, Reaches}
 
@@ -22,10 +24,10 @@ one_row ps n a b p q = elim (dec_le a b) [
   | no g ↦ absurd (omega (arith, p.before b (omega arith), q.rest b (omega arith) (omega (arith, p.within))))
 ]
 
-pub put_pairs_once : (c : Tables) (l : List ℕ) (s : Cursor) (ss first wide code : List ℕ) (total : ℕ) (ps : List ℕ) (n many : ℕ) → LaidTables c ss (laid first wide code total)
-    → Pairs c many ps → Reaches ps n s.row → RoomFor l s.at (lines (body_of (pairs_body c ps n)))
-    → Once {A = Cursor × List ℕ} (λ (r, m). (k : Tables) → LaidTables k ss (laid first wide code total) → (j : ℕ) → Pairs k j ps → Reaches ps n s.row
-    → Reaches ps (n + 1) r.row × PutIfRoom l s.at (lines (body_of (pairs_body k ps n))) m r.at)
-put_pairs_once c l s ss first wide code total ps n many d e f h x y p q =
-    let u = p c d many e f in let v = q c d many e f in let z = one_row ps (n + 1) _ _ u.0 v.0 in
-    λ i. (record { at = (u.1.next ∙ sym v.1.next) i; row = z i }, (u.1.list h ∙ sym (v.1.list h)) i)
+pub put_pairs_once : (t : ChartTables) (l : List ℕ) (s : Cursor) (y : Layout) (ps : List ℕ) (n many : ℕ) → LaidTables (given t) y → Pairs (given t) many ps → Reaches ps n s.row
+    → RoomFor l s.at (lines (body_of (pairs_body (given t) ps n)))
+    → Once {A = Cursor × List ℕ} (λ (r, m). LaidTables (given t) y → (j : ℕ) → Pairs (given t) j ps → Reaches ps n s.row
+    → Reaches ps (n + 1) r.row × PutIfRoom l s.at (lines (body_of (pairs_body (given t) ps n))) m r.at)
+put_pairs_once t l s y ps n many d e f h x z p q =
+    let u = p d many e f in let v = q d many e f in let w = one_row ps (n + 1) _ _ u.0 v.0 in
+    λ i. (record { at = (u.1.next ∙ sym v.1.next) i; row = w i }, (u.1.list h ∙ sym (v.1.list h)) i)

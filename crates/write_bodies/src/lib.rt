@@ -2,64 +2,40 @@
 #![tactic(auto)]
 
 ghost use Rattle.std.specs.Prelude.{ℕ, ◌+◌, ◌-◌, ◌<◌};
-ghost use Rattle.meaning.specs.Tables.{Tables, state_count};
+ghost use Rattle.meaning.specs.Tables.{state_count};
+ghost use Rattle.tables.specs.Given.{given};
 ghost use Rattle.meaning.specs.Programs.{chain_of, body_of};
 ghost use Rattle.meaning.specs.Written.{state_tests, chain, pairs_body};
 ghost use Rattle.write_lines.specs.Fit.{PutIfRoom};
-ghost use Rattle.write_bits.specs.Sent.{lines, laid, LaidTables};
+ghost use Rattle.write_bits.specs.Sent.{lines, LaidTables};
 ghost use Rattle.write_bodies.specs.Pairs.{Known, bracket_of, brackets, or_of, PairsRun, Pairs, Reaches};
 
+use layout::Layout;
+use tables::ChartTables;
 use write_bits::Spot;
 use write_operators::Way;
 
 // A state as the first of a body or of a bracket.
-fn put_chain(
-    out: &mut [u8],
-    at: usize,
-    states: &[u16],
-    first: &[u16; 256],
-    width: &[u8; 256],
-    code: &[u16; 256],
-    total: u32,
-    s: usize,
-) -> usize
-    ensures { (c : Tables) → LaidTables c states.now
-        (laid first.now width.now code.now total) → s < state_count c
-        → PutIfRoom out.old at (lines (chain_of (chain (state_tests c s)))) out.new result }
+fn put_chain(out: &mut [u8], at: usize, t: &ChartTables<'_>, layout: &Layout, s: usize) -> usize
+    ensures { LaidTables (given t.now) layout.now → s < state_count (given t.now)
+        → PutIfRoom out.old at (lines (chain_of (chain (state_tests (given t.now) s))))
+        out.new result }
 {
-    let p = write_bits::put_state(
-        out,
-        Spot {
-            at,
-            way: Way::First,
-        },
-        states,
-        first,
-        width,
-        code,
-        total,
-        s,
-    );
+    let first = Spot {
+        at,
+        way: Way::First,
+    };
+    let p = write_bits::put_state(out, first, t, layout, s);
     write_bits::put_true(out, p)
 }
 
 // "OR( on its own line, its lines, ) on its own line"
-fn put_bracket(
-    out: &mut [u8],
-    at: usize,
-    states: &[u16],
-    first: &[u16; 256],
-    width: &[u8; 256],
-    code: &[u16; 256],
-    total: u32,
-    s: usize,
-) -> usize
-    ensures { (c : Tables) → LaidTables c states.now
-        (laid first.now width.now code.now total) → s < state_count c
-        → PutIfRoom out.old at (lines (bracket_of (state_tests c s))) out.new result }
+fn put_bracket(out: &mut [u8], at: usize, t: &ChartTables<'_>, layout: &Layout, s: usize) -> usize
+    ensures { LaidTables (given t.now) layout.now → s < state_count (given t.now)
+        → PutIfRoom out.old at (lines (bracket_of (state_tests (given t.now) s))) out.new result }
 {
     let p = write_lines::put_part(out, at, b"OR(\n");
-    let q = put_chain(out, p, states, first, width, code, total, s);
+    let q = put_chain(out, p, t, layout, s);
     write_lines::put_part(out, q, b")\n")
 }
 
@@ -67,35 +43,19 @@ fn put_bracket(
 fn put_brackets(
     out: &mut [u8],
     at: usize,
-    states: &[u16],
-    first: &[u16; 256],
-    width: &[u8; 256],
-    code: &[u16; 256],
-    total: u32,
+    t: &ChartTables<'_>,
+    layout: &Layout,
     pairs: &[u16],
     from: usize,
     to: usize,
 ) -> usize
-    ensures { (c : Tables) → LaidTables c states.now
-        (laid first.now width.now code.now total)
-        → Known c pairs.now from to
-        → PutIfRoom out.old at (lines (brackets c pairs.now from (to - from)))
+    ensures { LaidTables (given t.now) layout.now → Known (given t.now) pairs.now from to
+        → PutIfRoom out.old at (lines (brackets (given t.now) pairs.now from (to - from)))
         out.new result }
 {
     let mut p = at;
-    let mut i = from;
-    while i < to {
-        p = put_bracket(
-            out,
-            p,
-            states,
-            first,
-            width,
-            code,
-            total,
-            tables::pair_state(pairs, i),
-        );
-        i += 1;
+    for i in from..to {
+        p = put_bracket(out, p, t, layout, tables::pair_state(pairs, i));
     }
     p
 }
@@ -104,60 +64,34 @@ fn put_brackets(
 fn put_or(
     out: &mut [u8],
     at: usize,
-    states: &[u16],
-    first: &[u16; 256],
-    width: &[u8; 256],
-    code: &[u16; 256],
-    total: u32,
+    t: &ChartTables<'_>,
+    layout: &Layout,
     pairs: &[u16],
     from: usize,
     to: usize,
 ) -> usize
-    ensures { (c : Tables) → LaidTables c states.now
-        (laid first.now width.now code.now total)
-        → Known c pairs.now from to
-        → PutIfRoom out.old at (lines (or_of c pairs.now from (to - from))) out.new
-        result }
+    ensures { LaidTables (given t.now) layout.now → Known (given t.now) pairs.now from to
+        → PutIfRoom out.old at (lines (or_of (given t.now) pairs.now from (to - from)))
+        out.new result }
 {
     if to <= from {
         return write_lines::put_part(out, at, b"LD FALSE\n");
     }
-    let p = put_chain(
-        out,
-        at,
-        states,
-        first,
-        width,
-        code,
-        total,
-        tables::pair_state(pairs, from),
-    );
-    put_brackets(
-        out,
-        p,
-        states,
-        first,
-        width,
-        code,
-        total,
-        pairs,
-        from + 1,
-        to,
-    )
+    let p = put_chain(out, at, t, layout, tables::pair_state(pairs, from));
+    put_brackets(out, p, t, layout, pairs, from + 1, to)
 }
 
 // The end of the rows for n that start at row. They stand together, because the pairs ascend.
 fn run_end(pairs: &[u16], row: usize, n: usize) -> usize
     ensures { PairsRun pairs.now n row result }
 {
-    let mut i = row;
-    while i < pairs.len() / 2 {
+    let rows = tables::pair_count(pairs);
+    for i in row..rows {
         if tables::pair_number(pairs, i) != n {
             return i;
         }
-        i += 1;
     }
-    i
+    rows.max(row)
 }
 
 // A place in the text, and the first row of a pair table that is not yet written.
@@ -172,25 +106,20 @@ pub struct Cursor {
 pub fn put_pairs(
     out: &mut [u8],
     cursor: Cursor,
-    states: &[u16],
-    first: &[u16; 256],
-    width: &[u8; 256],
-    code: &[u16; 256],
-    total: u32,
+    t: &ChartTables<'_>,
+    layout: &Layout,
     pairs: &[u16],
     n: usize,
 ) -> Cursor
-    ensures { (c : Tables) → LaidTables c states.now
-        (laid first.now width.now code.now total) → (many : ℕ)
-        → Pairs c many pairs.now → Reaches pairs.now n cursor.row
+    ensures { LaidTables (given t.now) layout.now → (many : ℕ)
+        → Pairs (given t.now) many pairs.now → Reaches pairs.now n cursor.row
         → Reaches pairs.now (n + 1) result.row
-        × PutIfRoom out.old cursor.at (lines (body_of (pairs_body c pairs.now n)))
+        × PutIfRoom out.old cursor.at (lines (body_of (pairs_body (given t.now) pairs.now n)))
         out.new result.at }
 {
-    let from = cursor.row;
-    let to = run_end(pairs, from, n);
-    let at = put_or(
-        out, cursor.at, states, first, width, code, total, pairs, from, to,
-    );
-    Cursor { at, row: to }
+    let row = run_end(pairs, cursor.row, n);
+    Cursor {
+        at: put_or(out, cursor.at, t, layout, pairs, cursor.row, row),
+        row,
+    }
 }

@@ -1,5 +1,5 @@
 -- From a text that is measured and then written to what the call leaves.
-use Rattle.std.specs.Prelude.{◌≡◌, List, [], ◌++◌, ℕ, ◌+◌, ◌≤◌, ◌<◌}
+use Rattle.std.specs.Prelude.{◌≡◌, List, [], ◌++◌, ℕ, ◌+◌, ◌≤◌, ◌<◌, Ok, Err}
 use Rattle.std.proofs.Math.Path.{ap}
 use Rattle.std.proofs.Common.{◌∙◌}
 use native.Mathlib.Omega.{arith}
@@ -12,7 +12,6 @@ use Rattle.meaning.specs.Calls.{overlaid}
 use Rattle.meaning.specs.declared.Refusal.TheVariants as R
 use Rattle.format.specs.Places.{room}
 use Rattle.format.specs.TextWritten.{TextWritten}
-use Rattle.format.specs.declared.Written.TheVariants.{Wrote, Refused}
 use Rattle.write_lines.specs.Fit.{PutIfRoom}
 
 module _ (t l m : List ℕ) (r : ℕ) (measured : PutIfRoom [] 0 t m r) where
@@ -20,7 +19,7 @@ module _ (t l m : List ℕ) (r : ℕ) (measured : PutIfRoom [] 0 t m r) where
   kept : m ++ l ≡ l
   kept = ap (λ x. x ++ l) (no_length m measured.long)
 
-  pub refuses : length l < r → TextWritten t l (Refused (R.Room r)) (m ++ l)
+  pub refuses : length l < r → TextWritten t l (Err (R.Room r)) (m ++ l)
   unfolding room
   refuses h =
       let e = lt-leb (length t) (length l) (omega (arith, measured.next)) in
@@ -28,7 +27,7 @@ module _ (t l m : List ℕ) (r : ℕ) (measured : PutIfRoom [] 0 t m r) where
       record { answer = rw (e, n); out = rw e kept }
 
   -- a slice is shorter than the largest number
-  pub writes : length l < most64 → r ≤ length l → {n : List ℕ} {k : ℕ} → PutIfRoom (m ++ l) 0 t n k → TextWritten t l (Wrote r) n
+  pub writes : length l < most64 → r ≤ length l → {n : List ℕ} {k : ℕ} → PutIfRoom (m ++ l) 0 t n k → TextWritten t l (Ok r) n
   unfolding overlaid
   writes short h p =
       let e = le-leb (length t) (length l) (omega (arith, measured.next)) in

@@ -17,22 +17,13 @@ pub enum Way {
 pub fn put_asked(out: &mut [u8], at: usize, way: Way, wanted: bool) -> usize
     ensures { PutIfRoom out.old at (operator_bytes way wanted) out.new result }
 {
-    match way {
-        Way::First => if wanted {
-            write_lines::put_part(out, at, b"LD ")
-        } else {
-            write_lines::put_part(out, at, b"LDN ")
-        },
-        Way::More => if wanted {
-            write_lines::put_part(out, at, b"AND ")
-        } else {
-            write_lines::put_part(out, at, b"ANDN ")
-        },
-        Way::Store => if wanted {
-            write_lines::put_part(out, at, b"S ")
-        } else {
-            write_lines::put_part(out, at, b"R ")
-        },
+    match (way, wanted) {
+        (Way::First, true) => write_lines::put_part(out, at, b"LD "),
+        (Way::First, false) => write_lines::put_part(out, at, b"LDN "),
+        (Way::More, true) => write_lines::put_part(out, at, b"AND "),
+        (Way::More, false) => write_lines::put_part(out, at, b"ANDN "),
+        (Way::Store, true) => write_lines::put_part(out, at, b"S "),
+        (Way::Store, false) => write_lines::put_part(out, at, b"R "),
     }
 }
 
@@ -41,8 +32,7 @@ pub fn next(way: Way) -> Way
     ensures { result ≡ next way }
 {
     match way {
-        Way::First => Way::More,
-        Way::More => Way::More,
+        Way::First | Way::More => Way::More,
         Way::Store => Way::Store,
     }
 }
@@ -52,8 +42,7 @@ pub fn base(way: Way, total: u32) -> u32
     ensures { result ≡ base_of total way }
 {
     match way {
-        Way::First => 0,
-        Way::More => 0,
+        Way::First | Way::More => 0,
         Way::Store => total,
     }
 }

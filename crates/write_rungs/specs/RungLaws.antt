@@ -31,7 +31,7 @@ use Rattle.write_rungs.specs.Rungs.{stores_of, is_nil}
 
 -- ---- stores
 
-module _ {c : Tables} {ss : List ℕ} {y : Layout} (d : LaidTables c ss y) where
+module _ {c : Tables} {y : Layout} (d : LaidTables c y) where
   total : y.total ≡ flip_flop_count c
   total = total_is c y d.laid d.rules.size.few_states
 

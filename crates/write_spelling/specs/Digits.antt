@@ -32,3 +32,5 @@ five_digits n h k =
     let e : n / 10 / 100 ≡ n / 1000 = omega arith in
     let f : n / 10 / 10 ≡ n / 100 = omega arith in
     rw (← d, ← e, ← f) (last_digit n _ (omega arith) (omega arith) (four_digits (n / 10) (omega arith) (omega arith)))
+
+pub ruleset few_digits = (one_digit, two_digits, three_digits, four_digits, five_digits)

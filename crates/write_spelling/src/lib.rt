@@ -2,7 +2,7 @@
 // part that has no room not at all.
 #![tactic(auto)]
 
-ghost use Rattle.std.specs.Prelude.{◌≡◌, ◌+◌, ◌%◌, ◌≤◌};
+ghost use Rattle.std.specs.Prelude.{◌≡◌, ◌+◌, ◌%◌};
 ghost use mathlib.Core.List.{◌++◌, flat_map};
 ghost use Rattle.format.specs.Text.{bytes, decimal, operand_text, operator_text, line, block_line, declarations};
 ghost use Rattle.meaning.specs.Rows.{table};
@@ -15,55 +15,49 @@ use meaning::{Operand, Operator};
 fn digit(n: u16) -> u8
     ensures { result ≡ 48 + n % 10 }
 {
-    48 + (n % 10) as u8
-}
-
-// A number of four or five digits, at the end of a line.
-fn put_long(out: &mut [u8], at: usize, n: u16) -> usize
-    ensures { 1000 ≤ n → PutIfRoom out.old at (line (decimal n)) out.new result }
-{
-    let thousands = n / 1000;
-    if thousands < 10 {
-        let four = [
-            digit(thousands),
-            digit(n / 100),
-            digit(n / 10),
-            digit(n),
-            10,
-        ];
-        return write_lines::put_part(out, at, &four);
-    }
-    let five = [
-        digit(thousands / 10),
-        digit(thousands),
-        digit(n / 100),
-        digit(n / 10),
-        digit(n),
-        10,
-    ];
-    write_lines::put_part(out, at, &five)
+    b'0' + (n % 10) as u8
 }
 
 // A number at the end of a line; no loop, because most lines end in one, of a few digits.
+#[tactic(auto, using(crate::specs::Digits::few_digits), unfolding(format::specs::Text::line))]
 fn put_number(out: &mut [u8], at: usize, n: u16) -> usize
     ensures { PutIfRoom out.old at (line (decimal n)) out.new result }
 {
-    if n < 10 {
-        let one = [digit(n), 10];
-        return write_lines::put_part(out, at, &one);
+    match n {
+        0..=9 => write_lines::put_part(out, at, &[digit(n), b'\n']),
+        10..=99 => write_lines::put_part(out, at, &[digit(n / 10), digit(n), b'\n']),
+        100..=999 => write_lines::put_part(
+            out,
+            at,
+            &[digit(n / 100), digit(n / 10), digit(n), b'\n'],
+        ),
+        1000..=9999 => {
+            let four = [
+                digit(n / 1000),
+                digit(n / 100),
+                digit(n / 10),
+                digit(n),
+                b'\n',
+            ];
+            write_lines::put_part(out, at, &four)
+        }
+        _ => {
+            let thousands = n / 1000;
+            let five = [
+                digit(thousands / 10),
+                digit(thousands),
+                digit(n / 100),
+                digit(n / 10),
+                digit(n),
+                b'\n',
+            ];
+            write_lines::put_part(out, at, &five)
+        }
     }
-    if n < 100 {
-        let two = [digit(n / 10), digit(n), 10];
-        return write_lines::put_part(out, at, &two);
-    }
-    if n < 1000 {
-        let three = [digit(n / 100), digit(n / 10), digit(n), 10];
-        return write_lines::put_part(out, at, &three);
-    }
-    put_long(out, at, n)
 }
 
-// The rest of a line on %MXn.
+// The rest of a line on %MXn. For each of three kinds of operand a function, two lines long: one that takes the kind
+// would have it spelt at every caller.
 pub fn put_mx(out: &mut [u8], at: usize, n: u16) -> usize
     ensures { PutIfRoom out.old at (line (operand_text (Operand.Mx n))) out.new result }
 {
@@ -88,19 +82,18 @@ pub fn put_qx(out: &mut [u8], at: usize, n: u16) -> usize
 }
 
 // The name of a block. There are at most 32.
+#[tactic(auto, using(crate::specs::Digits::few_digits, write_lines::specs::Fit::in_a_row))]
 fn put_name(out: &mut [u8], at: usize, n: u16) -> usize
     ensures { PutIfRoom out.old at (bytes "T" ++ decimal n) out.new result }
 {
-    if n < 10 {
-        let one = [b'T', digit(n)];
-        return write_lines::put_part(out, at, &one);
+    match n {
+        0..=9 => write_lines::put_part(out, at, &[b'T', digit(n)]),
+        10..=99 => write_lines::put_part(out, at, &[b'T', digit(n / 10), digit(n)]),
+        _ => {
+            let p = write_lines::put(out, at, b'T');
+            write_lines::put_decimal(out, p, u64::from(n))
+        }
     }
-    if n < 100 {
-        let two = [b'T', digit(n / 10), digit(n)];
-        return write_lines::put_part(out, at, &two);
-    }
-    let p = write_lines::put(out, at, b'T');
-    write_lines::put_decimal(out, p, n as u64)
 }
 
 // The rest of a line that begins with the name of a block.
@@ -121,33 +114,36 @@ pub fn put_on_block(out: &mut [u8], at: usize, word: &[u8], n: u16, tail: &[u8])
     put_named(out, p, n, tail)
 }
 
+// A number of any size between two parts of a line.
+fn put_between(out: &mut [u8], at: usize, head: &[u8], n: u64, tail: &[u8]) -> usize
+    ensures { PutIfRoom out.old at (head.now ++ (decimal n ++ tail.now)) out.new result }
+{
+    let p = write_lines::put_part(out, at, head);
+    let q = write_lines::put_decimal(out, p, n);
+    write_lines::put_part(out, q, tail)
+}
+
 // The line LD T#..ms.
 pub fn put_time(out: &mut [u8], at: usize, n: u32) -> usize
     ensures { PutIfRoom out.old at (line (operator_text (Operator.LdTime n))) out.new result }
 {
-    let p = write_lines::put_part(out, at, b"LD T#");
-    let q = write_lines::put_decimal(out, p, n as u64);
-    write_lines::put_part(out, q, b"ms\n")
+    put_between(out, at, b"LD T#", u64::from(n), b"ms\n")
 }
 
 // "T1 : TON;"
 fn put_block(out: &mut [u8], at: usize, n: usize) -> usize
     ensures { PutIfRoom out.old at (block_line n) out.new result }
 {
-    let p = write_lines::put_part(out, at, b"T");
-    let q = write_lines::put_decimal(out, p, n as u64);
-    write_lines::put_part(out, q, b" : TON;\n")
+    put_between(out, at, b"T", n as u64, b" : TON;\n")
 }
 
 // a line each, for the blocks 1 to d
 fn put_blocks(out: &mut [u8], at: usize, d: usize) -> usize
     ensures { PutIfRoom out.old at (flat_map block_line (table (λ n. n) 1 d)) out.new result }
 {
-    let mut n = 0;
     let mut p = at;
-    while n < d {
-        n += 1;
-        p = put_block(out, p, n);
+    for n in 0..d {
+        p = put_block(out, p, n + 1);
     }
     p
 }
@@ -167,6 +163,7 @@ pub fn put_head(out: &mut [u8], at: usize, d: usize) -> usize
 }
 
 // The line END_PROGRAM.
+#[tactic(auto, unfolding(format::specs::Text::line))]
 pub fn put_end(out: &mut [u8], at: usize) -> usize
     ensures { PutIfRoom out.old at (line (bytes "END_PROGRAM")) out.new result }
 {

@@ -1,4 +1,3 @@
-pub mod Wrote
 pub mod TextLaws
 pub mod Once
 pub mod Texts

@@ -1,13 +1,12 @@
 -- The line of a word by its two numbers, that it is its instruction's, and the lines one after the other.
-use Rattle.std.specs.Prelude.{◌≡◌, refl, ℕ, ◌+◌, ◌/◌, ◌%◌, ◌<◌, length, get_or, take, Bool, true, false, cond, eqb}
+use Rattle.format.specs.Decode.{Decoded}
+use Rattle.std.specs.Prelude.{◌≡◌, refl, ℕ, ◌+◌, ◌/◌, ◌%◌, ◌<◌, length, get_or, take, Bool, true, false, cond, eqb, Some, None}
 use Rattle.std.proofs.Common.{ap, ap₂, add-one, arith, take-suc}
 use mathlib.Core.List.{List, [], ◌∷◌, ◌++◌, map, flat_map, append-nil}
 use Rattle.meaning.proofs.Laws.Rows.{and_l, and_r, flat_map_append}
 use Rattle.meaning.specs.Programs.{all}
 use Rattle.meaning.specs.declared.Operator.{Operator}
 use Rattle.meaning.specs.declared.Operator.TheVariants.{Ld, Ldn, And, Andn, Or, Close, St, S, R, Cal, LdTime}
-use Rattle.format.specs.declared.Decoded.{Decoded}
-use Rattle.format.specs.declared.Decoded.TheVariants.{Known, Unknown}
 use Rattle.format.specs.Words.{word}
 use Rattle.format.specs.Text.{operator_text, line}
 use Rattle.format.specs.Decode.{operator_fits, operand_of, kept, unpacked, decoded}
@@ -29,28 +28,28 @@ word_line n = line (operator_text (operator_of (n / 134217728) (n % 134217728)))
 -- ---- from the two numbers
 
 -- what both answers of a test lead to
-known_both : (b : Bool) (d e : Decoded) (j i : Operator) → (d ≡ Known i → j ≡ i) → (e ≡ Known i → j ≡ i) → cond b d e ≡ Known i → j ≡ i
+known_both : (b : Bool) (d e : Decoded) (j i : Operator) → (d ≡ Some i → j ≡ i) → (e ≡ Some i → j ≡ i) → cond b d e ≡ Some i → j ≡ i
 known_both true d e j i f g h = f h
 known_both false d e j i f g h = g h
 
-known_none : (j i : Operator) → Unknown ≡ Known i → j ≡ i
+known_none : (j i : Operator) → None ≡ Some i → j ≡ i
 known_none j i e = let z : ◌≡◌ {A = ℕ} 0 1 = cc in absurd (omega arith)
 
 -- an instruction that is kept under a test is itself
-known_only : (b : Bool) (j i : Operator) → cond b (Known j) Unknown ≡ Known i → j ≡ i
-known_only b j i = known_both b (Known j) Unknown j i (λ e. cc) (known_none j i)
+known_only : (b : Bool) (j i : Operator) → cond b (Some j) None ≡ Some i → j ≡ i
+known_only b j i = known_both b (Some j) None j i (λ e. cc) (known_none j i)
 
 -- the same test of the number on both sides
-known_test : (b : Bool) (d e : Decoded) (j o i : Operator) → (d ≡ Known i → j ≡ i) → (e ≡ Known i → o ≡ i) → cond b d e ≡ Known i → cond b j o ≡ i
+known_test : (b : Bool) (d e : Decoded) (j o i : Operator) → (d ≡ Some i → j ≡ i) → (e ≡ Some i → o ≡ i) → cond b d e ≡ Some i → cond b j o ≡ i
 known_test true d e j o i f g h = f h
 known_test false d e j o i f g h = g h
 
-known_kept : (j i : Operator) → kept j ≡ Known i → j ≡ i
+known_kept : (j i : Operator) → kept j ≡ Some i → j ≡ i
 unfolding kept
 known_kept j i = known_only (operator_fits j) j i
 
 -- a word that decodes is the operator with the operand that its numbers name
-by_numbers : (k m : ℕ) (i : Operator) → unpacked k m ≡ Known i → operator_of k m ≡ i
+by_numbers : (k m : ℕ) (i : Operator) → unpacked k m ≡ Some i → operator_of k m ≡ i
 unfolding unpacked store_of operator_of
 by_numbers k m i =
     known_test (eqb k 1) _ _ _ _ i (known_kept (Ld (operand_of m)) i)

@@ -1,4 +1,5 @@
 -- The text of words, from their lines, and that it is the program's: who writes it gives an answer that Answers allows.
+use Rattle.meaning.specs.Refusals.{Answer}
 use Rattle.std.specs.Prelude.{◌≡◌, ℕ}
 use mathlib.Core.List.{List, ◌++◌, flat_map}
 use Rattle.meaning.specs.Programs.{instructions}
@@ -6,7 +7,6 @@ use Rattle.format.specs.Words.{words}
 use Rattle.format.specs.Text.{bytes, line, declarations, text}
 use Rattle.format.proofs.Laws.Passing.{program_instructions}
 use Rattle.format.specs.TextWritten.{TextWritten}
-use Rattle.format.specs.declared.Written.{Written}
 use Rattle.grammar_words.specs.Pass.{Holds}
 use Rattle.write_word_lines.specs.ByNumbers.{word_line, lines_same}
 use Rattle.write_words.specs.Answers.{WordsWritten}
@@ -19,5 +19,5 @@ pub holds_text : {l : List ℕ} {d : ℕ} (h : Holds l d) → words_text d l ≡
 unfolding words_text text words
 holds_text h = rw (← h.listing, ← h.blocks, lines_same (instructions h.program) (program_instructions h.program h.fitting))
 
-pub words_written : {l out m : List ℕ} {r : Written} {d : ℕ} → Holds l d → TextWritten (words_text d l) out r m → WordsWritten l out r m
+pub words_written : {l out m : List ℕ} {r : Answer} {d : ℕ} → Holds l d → TextWritten (words_text d l) out r m → WordsWritten l out r m
 words_written h w = WordsWritten.accepted h.program h.fitting h.listing (rw (holds_text h) at w)

@@ -6,8 +6,6 @@ ghost use Rattle.write_lines.specs.Fit.{PutIfRoom};
 ghost use Rattle.write_words.specs.Answers.{WordsWritten};
 ghost use Rattle.write_words.specs.ByWords.{words_text};
 
-use format::Written;
-use grammar_words::WordsEnd;
 use meaning::Refusal;
 
 // The text of accepted words with d blocks.
@@ -16,31 +14,25 @@ fn put_text(out: &mut [u8], d: usize, words: &[u32]) -> usize
 {
     let p = write_spelling::put_head(out, 0, d);
     let q = write_word_lines::put_words(out, p, words);
-    let end = write_spelling::put_end(out, q);
-    end
+    write_spelling::put_end(out, q)
 }
 
 // The text is measured over no bytes first: "A refusal writes nothing."
-fn write_text(words: &[u32], d: usize, out: &mut [u8]) -> Written
+fn write_text(words: &[u32], d: usize, out: &mut [u8]) -> Result<usize, Refusal>
     ensures { TextWritten (words_text d words.now) out.old result out.new }
 {
-    let room = out.len();
-    let none = 0;
-    let needed = put_text(&mut out[..none], d, words);
-    if room < needed {
-        return Written::Refused(Refusal::Room(needed));
+    let needed = put_text(&mut [], d, words);
+    if out.len() < needed {
+        return Err(Refusal::Room(needed));
     }
     put_text(out, d, words);
-    Written::Wrote(needed)
+    Ok(needed)
 }
 
 // The text of the program that the words are.
-pub fn write_words(words: &[u32], out: &mut [u8]) -> Written
+pub fn write_words(words: &[u32], out: &mut [u8]) -> Result<usize, Refusal>
     ensures { WordsWritten words.now out.old result out.new }
 {
-    let passed = grammar_words::words_pass(words);
-    match passed {
-        WordsEnd::Accepted(d) => write_text(words, d as usize, out),
-        WordsEnd::Refused(k) => Written::Refused(Refusal::Text(k)),
-    }
+    let d = grammar_words::words_pass(words).map_err(Refusal::Text)?;
+    write_text(words, d as usize, out)
 }

@@ -1,15 +1,14 @@
-use mathlib.Core.Path.{refl, sym, ◌∙◌}
+-- What the check refuses is not run; what it accepts keeps the rules, and the later checks decide.
+use Rattle.std.proofs.lemmas.Result.{err_from_is_err_and}
+use Rattle.std.proofs.Common.{sym, ◌∙◌}
 use Rattle.meaning.proofs.Laws.Verdict.{accepted_exactly}
 use Rattle.chart_calls.specs.Runs.{refused_tables, accepted_tables}
 use Rattle.chart_calls.proofs.run_chart.Goals as goal
 
-pub returns-in-Refused : goal.returns-in-Refused
-returns-in-Refused c = refused_tables _ _ _ _ _ _ (sym c.check-v.ensures ∙ c.in-Refused.is)
+pub returns-in_err-check : goal.returns-in_err-check
+returns-in_err-check c = let p = err_from_is_err_and c.from_residual.result c.from_residual.ensures.1 in rw (p.1, p.2) (refused_tables _ _ _ _ _ _ (sym c.check.ensures ∙ c.in_err-check.was))
 
-pub returns-in-Accepted : goal.returns-in-Accepted
-returns-in-Accepted c =
-    let e = sym c.check-v.ensures ∙ c.in-Accepted.is in
-    accepted_tables _ _ _ _ _ _ _ _ _ e
-    (c.run_checked.ensures _
-    (record { step = refl; outputs = refl; lent = record { states = refl; moves = refl; presets = refl; timer_pairs = refl; output_pairs = refl } })
-    ((accepted_exactly _).0 e))
+pub returns : goal.returns
+returns c =
+    let e = sym c.check.ensures ∙ c.in_ok-check.was in
+    accepted_tables _ _ _ _ _ _ _ _ _ e (c.run_checked.ensures ((accepted_exactly _).0 e))

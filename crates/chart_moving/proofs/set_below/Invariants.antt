@@ -1,14 +1,11 @@
-use mathlib.Core.Path.{◌≡◌}
-use Prim.Native.Nat.{◌≤◌, ◌<◌, ◌-◌}
-use lib.ListN.{length}
-use Rattle.meaning.specs.Tables.{Tables, state_count, initial}
+-- With k levels behind, what is set from s down is the rest of what is set from the target down.
+use Rattle.std.proofs.Common.{◌≡◌, ◌<◌, ◌-◌}
+use Rattle.meaning.specs.Tables.{state_count, initial}
 use Rattle.meaning.specs.Rules.{Rules}
+use Rattle.tables.specs.Given.{given}
 use Rattle.chart_moving.specs.Moves.{set_below}
 use Rattle.chart_moving.proofs.set_below.Given as goal
 
 abbrev pub invariant-loop-k : goal.invariant-loop-k
-invariant-loop-k l = (l.k ≤ 9) × (length l.memory ≡ length l.initial.memory)
-    × ((c : Tables) → c.states ≡ l.states → Rules c → l.t < state_count c → (l.s < state_count c) × (set_below (initial c) (9 - l.k) l.s l.memory ≡ set_below (initial c) 9 l.t l.initial.memory))
-
-abbrev pub decreases-loop-k : goal.decreases-loop-k
-decreases-loop-k l = 9 - l.k
+invariant-loop-k l = Rules (given l.t) → l.target < state_count (given l.t)
+    → (l.s < state_count (given l.t)) × (set_below (initial (given l.t)) (9 - l.k) l.s l.memory ≡ set_below (initial (given l.t)) 9 l.target l.initial.memory)

@@ -1,13 +1,8 @@
-use native.Mathlib.Omega.{arith}
-use mathlib.Core.Path.{◌≡◌, refl, sym, ◌∙◌}
-use Prim.Native.Nat.{suc, ◌-◌, ◌+◌}
-use borrow.Author.Tests.{eq-eqb, ne_eqb}
+-- The walk ends where nothing is remembered; elsewhere it goes one level down.
+use Rattle.std.proofs.Common.{◌≡◌, ◌≢◌, sym, ◌∙◌, suc, ◌-◌, ◌+◌, arith, eq-eqb, ne_eqb}
 use Rattle.meaning.specs.Machine.{remembered}
 use Rattle.chart_paths.specs.Walk.{walk}
 use Rattle.chart_paths.proofs.active_leaf.Goals as goal
-
-pub loop-k-init : goal.loop-k-init
-loop-k-init c = (omega arith, refl)
 
 pub returns-then-below-eq0 : goal.returns-then-below-eq0
 unfolding walk
@@ -15,7 +10,7 @@ returns-then-below-eq0 c =
     let b = c.loop-k in
     let g = remembered c.args.memory.now in
     let z : 8 - b.k ≡ suc (8 - (b.k + 1)) = omega arith in
-    rw (z, walk, eq-eqb (g b.s) 0 (sym c.remembered-below.ensures ∙ c.if-below-eq0.true)) at b.invariant.1
+    rw (z, walk, eq-eqb (g b.s) 0 (sym c.remembered-below.ensures ∙ c.if-below-eq0.true)) at b.invariant
 
 pub loop-k-preserved : goal.loop-k-preserved
 unfolding walk
@@ -23,9 +18,9 @@ loop-k-preserved c =
     let b = c.loop-k in
     let g = remembered c.args.memory.now in
     let z : 8 - b.k ≡ suc (8 - (b.k + 1)) = omega arith in
-    let n : g b.s ≡ 0 → ⊥ = λ x. c.if-below-eq0.false (c.remembered-below.ensures ∙ x) in
-    (omega arith, rw c.remembered-below.ensures (rw (z, walk, ne_eqb (g b.s) 0 n) at b.invariant.1))
+    let n : g b.s ≢ 0 = λ x. c.if-below-eq0.false (c.remembered-below.ensures ∙ x) in
+    rw c.remembered-below.ensures (rw (z, walk, ne_eqb (g b.s) 0 n) at b.invariant)
 
 pub returns : goal.returns
 unfolding walk
-returns c = let b = c.loop-k in let z : 8 - b.k ≡ 0 = omega arith in rw z at b.invariant.1
+returns c = let b = c.loop-k in let z : 8 - b.k ≡ 0 = omega arith in rw z at b.invariant

@@ -1,11 +1,8 @@
-use mathlib.Core.Path.{◌≡◌}
-use Prim.Native.Nat.{◌≤◌, ◌-◌}
+-- With k levels behind, the rest of the walk from s is the walk from the root.
+use Rattle.std.proofs.Common.{◌≡◌, ◌-◌}
 use Rattle.meaning.specs.Machine.{remembered}
 use Rattle.chart_paths.specs.Walk.{walk}
 use Rattle.chart_paths.proofs.active_leaf.Given as goal
 
 abbrev pub invariant-loop-k : goal.invariant-loop-k
-invariant-loop-k l = (l.k ≤ 8) × (walk (remembered l.memory) (8 - l.k) l.s ≡ walk (remembered l.memory) 8 0)
-
-abbrev pub decreases-loop-k : goal.decreases-loop-k
-decreases-loop-k l = 8 - l.k
+invariant-loop-k l = walk (remembered l.memory) (8 - l.k) l.s ≡ walk (remembered l.memory) 8 0

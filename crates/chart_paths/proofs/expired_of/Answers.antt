@@ -1,3 +1,4 @@
+-- One row more is one bit more; beyond the timers that there may be nothing is asked.
 use native.Mathlib.Omega.{arith}
 use mathlib.Core.Path.{◌≡◌, refl, ap, sym, ◌∙◌}
 use mathlib.Core.Bool.{Bool, ◌&&◌, ◌||◌, or-false}
@@ -8,6 +9,7 @@ use native.Mathlib.Decide.{ℕ_discrete}
 use Rattle.meaning.proofs.Laws.Rows.{same_test}
 use Rattle.chart_paths.specs.Words.{expired_at}
 use Rattle.meaning.proofs.Laws.Bits.{no_bit}
+use Rattle.tables.specs.Given.{given}
 use Rattle.chart_paths.proofs.expired_of.Goals as goal
 
 -- the bit of row j, once that of row i is set if e i
@@ -17,17 +19,14 @@ one_more e i j = elim (ℕ_discrete i j) [
   | no x ↦ rw (ne_eqb i j x, or-false (ltb j i && e j)) (ap (λ b. b && e j) (same_test _ _ (λ f. lt-ltb j (i + 1) (omega (arith, ltb-true j i f))) (λ f. lt-ltb j i (omega (arith, x, ltb-true j (i + 1) f)))))
 ]
 
-pub returns-then-presets-gt-TIMERS : goal.returns-then-presets-gt-TIMERS
-returns-then-presets-gt-TIMERS c h = absurd (omega arith)
-
 pub loop-i-init : goal.loop-i-init
-loop-i-init c = (omega arith, λ j. no_bit (suc j) ∙ sym (ap (λ b. b && expired_at c.args.presets.now c.args.running c.args.timers.now j) (le-ltb j 0 (omega arith))))
+loop-i-init c j = no_bit (suc j) ∙ sym (ap (λ b. b && expired_at (given c.args.t.now).presets c.args.running c.args.timers.now j) (le-ltb j 0 (omega arith)))
 
 pub loop-i-preserved : goal.loop-i-preserved
-loop-i-preserved c =
+loop-i-preserved c j =
     let b = c.loop-i in
     let a = c.args in
-    (omega arith, λ j. rw (c.with_bit_if-word.ensures j, b.invariant.1 j, c.is_expired-b.ensures) (one_more (expired_at a.presets.now a.running a.timers.now) b.i j))
+    rw (c.with_bit_if-word.ensures j, b.invariant j, c.is_expired.ensures) (one_more (expired_at (given a.t.now).presets a.running a.timers.now) b.i j)
 
 pub returns : goal.returns
-returns c h i k = let b = c.loop-i in b.invariant.1 i ∙ rw (lt-ltb i b.i (omega arith))
+returns c h i k = let b = c.loop-i in b.invariant i ∙ rw (lt-ltb i b.i (omega arith))

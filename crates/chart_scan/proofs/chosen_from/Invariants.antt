@@ -1,10 +1,9 @@
-use Rattle.check_needs.specs.Words.{need_words}
-use Rattle.check_needs.specs.WordsLaws.{Small}
-use mathlib.Core.Path.{◌≡◌}
-use Prim.Native.Nat.{ℕ, suc, ◌≤◌, ◌<◌, ◌/◌}
-use lib.ListN.{length}
+-- From the front the same move is found as from the move behind; j is 0, or counts a move from the state.
+use Rattle.std.proofs.Common.{◌≡◌, ℕ, suc, ◌≤◌, ◌<◌, ◌/◌, length}
 use Rattle.meaning.specs.Tables.{Tables, move_count, source}
 use Rattle.meaning.specs.Rules.{Rules}
+use Rattle.check_needs.specs.Words.{need_words}
+use Rattle.check_needs.specs.WordsLaws.{Small}
 use Rattle.chart_scan.specs.Choice.{read, HoldTo, last_holding, LinkedTo}
 use Rattle.chart_scan.proofs.chosen_from.Given as goal
 

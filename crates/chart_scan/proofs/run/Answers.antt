@@ -1,23 +1,22 @@
-use native.Mathlib.Omega.{arith}
-use mathlib.Core.Path.{sym, subst}
+-- What is made once is what the scans ask for.
+use Rattle.std.proofs.Common.{refl, arith}
 use Rattle.meaning.proofs.Laws.Rows.{get_d_equal}
-use Rattle.check_pairing.specs.Words.{PairedWords}
+use Rattle.meaning.specs.Tables.{timer_count}
+use Rattle.tables.specs.Given.{given}
 use Rattle.chart_scan.specs.Held.{Made}
 use Rattle.chart_scan.specs.StepLaws.{longest_made, rules_tree}
 use Rattle.chart_scan.proofs.run.Goals as goal
 
 pub returns : goal.returns
-returns c c' g R W E lm lt val p q =
+unfolding timer_count
+returns c R W E lm lt val p q =
     let a = c.args in
-    let shows = c.paired_words.new.words in
-    let ns = c.make_needs.new.needs in
-    let links = c.make_links.new.links in
-    let M : Made c' a.runs.now links ns c.longest_of-most.result = record {
+    let d = given a.t.now in
+    let M : Made d a.runs.now c.make_links.new.links c.make_needs.new.needs c.longest_of-most.result = record {
       running = W;
-      linked = c.make_links.ensures c' g.lent.moves R (omega arith) (get_d_equal 0 768);
-      holds = c.make_needs.ensures c' g.lent.moves R E.needs_room;
+      linked = c.make_links.ensures R (omega arith) (get_d_equal 0 768);
+      holds = c.make_needs.ensures R E.needs_room;
       room = rw c.make_needs.auto.needs E.needs_room;
-      longest = longest_made c' R a.presets.now c.longest_of-most.result a.chart.step g.lent.presets g.step c.longest_of-most.ensures;
+      longest = longest_made d R d.presets c.longest_of-most.result d.scan_step refl refl c.longest_of-most.ensures;
     } in
-    c.run_made.ensures c' g.step g.lent.states g.lent.moves g.lent.presets R M
-    (subst (λ ps. PairedWords c' ps shows) (sym g.lent.output_pairs) (c.paired_words.ensures c' g.lent.states (rules_tree c' R) E.shows_room E.no_shows)) lm lt val p q
+    c.run_made.ensures R M (c.paired_words.ensures (rules_tree d R) E.shows_room E.no_shows) lm lt val p q

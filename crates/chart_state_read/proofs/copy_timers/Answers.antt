@@ -1,30 +1,19 @@
-use native.Mathlib.Omega.{arith}
-use mathlib.Core.Path.{refl, ◌∙◌}
-use lib.Seq.{get_or-set_same, get_or-set_other}
-use native.Mathlib.Decide.{ℕ_discrete}
+-- What `get` finds is the end of the slice; where it finds none, the slice ends before it.
+use Rattle.std.proofs.Common.{◌≡◌, refl, sym, ◌∙◌, arith, ◌⊎◌, inl, inr, ℕ, ◌+◌, ◌-◌, ◌≤◌, ◌<◌, List, [], length, drop, get_or, get_or-drop, length-drop, Bor, Option, Some, None}
+use Rattle.std.specs.Option.{MatchOption, unwrap_or}
+use Rattle.std.specs.List.{slice_range}
+use Rattle.std.proofs.Math.ListN.{get_or-eq_default}
+use lib.Seq.{take_all}
 use Rattle.chart_state_read.proofs.copy_timers.Goals as goal
 
-pub returns-then-count-gt-TIMERS : goal.returns-then-count-gt-TIMERS
-returns-then-count-gt-TIMERS c h k i z = absurd (omega arith)
-
-pub loop-i-init : goal.loop-i-init
-loop-i-init c = (omega arith, refl, λ j h k. absurd (omega arith))
-
-pub loop-i-preserved : goal.loop-i-preserved
-loop-i-preserved c =
-    let b = c.loop-i in
-    let t = c.put_value in
-    let v = c.value in (
-      omega arith,
-      t.auto.values ∙ b.invariant.1,
-      λ j h k. rw t.ensures (elim (ℕ_discrete j b.i) [
-        | yes x ↦ rw x (get_or-set_same b.timers b.i v.result 0 (omega (arith, x, k, b.invariant.1)) ∙ v.ensures)
-        | no x ↦ get_or-set_other b.timers b.i j v.result 0 x ∙ b.invariant.2 j (omega arith) k
-      ]),
-    )
-
-pub shape_of-timers : goal.shape_of-timers
-shape_of-timers c = c.loop-i.invariant.1
+end_of : (r : Option (Bor (List ℕ))) (none : Bor (List ℕ)) (l : List ℕ) (n i : ℕ) → none.now ≡ []
+    → MatchOption r ((length l < n) ⊎ (length l < length l)) (λ x. (n ≤ length l) × (length l ≤ length l) × (x.now ≡ slice_range l n (length l)) × (length x.now + n ≡ length l))
+    → get_or (unwrap_or r none).now i 0 ≡ get_or l (n + i) 0
+end_of None none l n i e (inl h) = rw e (sym (get_or-eq_default l 0 {n = n + i} (omega arith)))
+end_of None none l n i e (inr h) = absurd (omega arith)
+end_of (Some x) none l n i e h =
+    let k : slice_range l n (length l) ≡ drop n l = take_all (length l - n) (drop n l) (omega (arith, length-drop n l)) in
+    rw (h.2, k) (get_or-drop n l i 0)
 
 pub returns : goal.returns
-returns c h k i z = c.loop-i.invariant.2 i (omega arith) (omega arith)
+returns c i h = c.loop-i.invariant i (omega arith) ∙ rw c.unwrap_or-values.ensures (end_of c.get.result _ c.args.state.now c.args.from i refl c.get.ensures.lookup.0)

@@ -1,48 +1,57 @@
-use native.Mathlib.Omega.{arith}
-use mathlib.Core.Path.{◌≡◌, refl, ◌∙◌}
-use Prim.Native.Nat.{◌<◌}
-use native.Mathlib.Numerals.{add-one}
+-- A super-state is one code more, and a leaf is none.
+use Rattle.std.proofs.Common.{◌≡◌, ◌<◌, refl, ap, sym, ◌∙◌, arith, length, take, [], ◌∷◌, ◌++◌, get_or, true, false, add-one, append-nil}
+use lib.Seq.{take-suc-set}
 use Rattle.meaning.specs.Rows.{count}
 use Rattle.meaning.specs.Tables.{state_count}
+use Rattle.meaning.specs.Rules.{Rules}
+use Rattle.meaning.specs.Hierarchy.{is_leaf}
+use Rattle.meaning.specs.Machine.{remembered}
 use Rattle.meaning.specs.Lent.{super_states_below}
+use Rattle.tables.specs.Given.{given}
 use Rattle.chart_state_read.specs.Codes.{codes_in}
-use Rattle.chart_state_read.specs.CodesLaws.{below_suc, code_room}
+use Rattle.chart_state_read.specs.CodesLaws.{below_suc, code_room, leaf_at, super_at}
 use Rattle.chart_state_write.proofs.write_codes.Goals as goal
+use Rattle.chart_state_write.proofs.write_codes.Goals.{then-initial-ne0, else-initial-ne0}
 
 pub loop-a-init : goal.loop-a-init
 unfolding super_states_below count codes_in
-loop-a-init c = (omega arith, omega arith, refl, λ c' e R h. (refl, refl))
-
-pub write_code-at-requires : goal.write_code-at-requires
-write_code-at-requires c = omega (arith, c.state_count-n.ensures.0)
+loop-a-init c = (omega arith, λ R h. (refl, refl))
 
 pub loop-a-preserved : goal.loop-a-preserved
 unfolding codes_in
 loop-a-preserved c =
     let b = c.loop-a in
-    let n = c.state_count-n.ensures in
-    let w = c.write_code-at in (
-      omega arith,
-      omega (arith, w.ensures.0),
-      w.auto.state ∙ b.invariant.2,
-      λ c' e R h.
-          let i = b.invariant.3 c' e R h in
-          let k : b.a < state_count c' = omega (arith, n.1 c' e R) in
-          let r = w.ensures.1 c' e R k (λ f. omega (arith, i.0, h, b.invariant.2, code_room c' R b.a k f)) in (
-            rw (add-one, below_suc c' b.a, ← i.0) r.0,
-            rw (add-one, ← i.1) r.1,
-          ),
-    )
-
-pub shape_of-state : goal.shape_of-state
-shape_of-state c = c.loop-a.invariant.2
+    let d = given c.args.t.now in
+    let e = c.state_count-a-end.ensures in
+    let k : Rules d → b.a < state_count d = λ R. omega (arith, e.1 R) in
+    elim c.if-initial-ne0.branch [
+      | then-initial-ne0 w ↦ (
+        omega arith,
+        λ R h.
+            let i = b.invariant.1 R h in
+            let f : is_leaf d b.a ≡ false = super_at d R b.a (k R) (rw c.initial.ensures at w.if-initial-ne0.true) in
+            let room : b.at < length b.state = omega (arith, i.0, h, code_room d R b.a (k R) f) in
+            let v : w.from.result ≡ get_or c.args.codes.now (remembered c.args.memory.now b.a) 0 = w.from.ensures ∙ w.at-code.ensures ∙ ap (λ x. get_or c.args.codes.now x 0) w.remembered.ensures in
+            let s : take c.if-initial-ne0.at c.if-initial-ne0.state ≡ take b.at b.state ++ (w.from.result ∷ []) = rw (w.at-is, w.state-is, w.put.ensures, add-one) (take-suc-set b.state b.at w.from.result room) in (
+              rw (add-one, below_suc d b.a, f) (omega (arith, i.0)),
+              rw (add-one, f, ← v, ← i.1) s,
+            ),
+      )
+      | else-initial-ne0 w ↦ (
+        omega arith,
+        λ R h.
+            let i = b.invariant.1 R h in
+            let f : is_leaf d b.a ≡ true = leaf_at d R b.a (k R) (rw c.initial.ensures at w.if-initial-ne0.false) in (
+              rw (add-one, below_suc d b.a, f) (omega (arith, i.0)),
+              rw (add-one, f, w.at-is, w.state-is, ← i.1) (sym (append-nil (take b.at b.state))),
+            ),
+      )
+    ]
 
 pub returns : goal.returns
 returns c =
     let b = c.loop-a in
-    let n = c.state_count-n.ensures in (
-      omega (arith, n.0),
-      λ c' e R h.
-          let z : b.a ≡ state_count c' = (let y : b.a ≡ c.state_count-n.result = omega arith in y ∙ n.1 c' e R) in
-          rw z at (b.invariant.3 c' e R h),
+    let d = given c.args.t.now in (
+      omega (arith, c.state_count-a-end.ensures),
+      λ R h. let z : b.a ≡ state_count d = omega (arith, c.state_count-a-end.ensures.1 R) in rw z at (b.invariant.1 R h),
     )

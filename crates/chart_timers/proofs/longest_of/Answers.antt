@@ -1,29 +1,22 @@
-use native.Mathlib.Omega.{arith}
-use mathlib.Core.Path.{refl, ◌∙◌}
-use Prim.Native.Nat.{◌%◌}
-use lib.ListN.{length-set}
-use lib.Seq.{get_or-set_same, get_or-set_other}
+-- One preset more is one entry more, which its width holds.
+use Rattle.std.proofs.Common.{◌∙◌, ◌<◌, arith, length-set, get_or-set_same, get_or-set_other}
 use native.Mathlib.Decide.{ℕ_discrete}
-use native.Mathlib.Nat.{mod-eq_of_lt}
+use Rattle.std.proofs.lemmas.Result.{Ok-from_Ok_iff}
+use Rattle.meaning.specs.Tables.{timer_count}
 use Rattle.chart_timers.proofs.longest_of.Goals as goal
 
-pub returns-then-presets-gt-TIMERS : goal.returns-then-presets-gt-TIMERS
-returns-then-presets-gt-TIMERS c h = absurd (omega arith)
-
-pub loop-i-init : goal.loop-i-init
-loop-i-init c = (omega arith, refl, λ p j h. absurd (omega arith))
+pub bounds-t-i : goal.bounds-t-i
+unfolding timer_count
+bounds-t-i c = omega arith
 
 pub loop-i-preserved : goal.loop-i-preserved
 loop-i-preserved c =
-    let b = c.loop-i in
-    let v = c.longest.result % 4294967296 in (
-      omega arith,
-      length-set b.most b.i v ∙ b.invariant.1,
+    let b = c.loop-i in (
+      length-set b.most b.i c.unwrap_or.result ∙ b.invariant.0,
       λ p j h k. elim (ℕ_discrete j b.i) [
-        | yes x ↦ rw (x, get_or-set_same b.most b.i v 0 (omega (arith, b.invariant.1)), c.longest.ensures) (mod-eq_of_lt (rw x at k))
-        | no x ↦ get_or-set_other b.most b.i j v 0 x ∙ b.invariant.2 p j (omega arith) k
+        | yes x ↦ (let f : c.longest.result < 4294967296 = rw c.longest.ensures (rw x at k) in
+            let o = Ok-from_Ok_iff c.try_from.result _ c.longest.result c.try_from.ensures f in
+            rw (x, get_or-set_same b.most b.i c.unwrap_or.result 0 (omega (arith, b.invariant.0)), c.unwrap_or.ensures, o) c.longest.ensures)
+        | no x ↦ get_or-set_other b.most b.i j c.unwrap_or.result 0 x ∙ b.invariant.1 p j (omega arith) k
       ],
     )
-
-pub returns : goal.returns
-returns c h p i k z = c.loop-i.invariant.2 p i (omega arith) z

@@ -5,9 +5,11 @@ use Rattle.check_literals.proofs.more_needs.Goals as goal
 pub returns-then-want : goal.returns-then-want
 returns-then-want c =
     let a = c.args in
-    rw c.if-want.true (thing_more a.a.on c.with_named-r.result a.kind c.with_named-r.ensures, thing_same a.a.off a.kind)
+    let r = c.with_named in
+    rw c.if-want.true (thing_more a.a.on r.result a.kind r.ensures, thing_same a.a.off a.kind)
 
-pub returns : goal.returns
-returns c =
+pub returns-else-want : goal.returns-else-want
+returns-else-want c =
     let a = c.args in
-    rw c.if-want.false (thing_same a.a.on a.kind, thing_more a.a.off c.with_named-r-2.result a.kind c.with_named-r-2.ensures)
+    let r = c.with_named-else-want in
+    rw c.if-want.false (thing_same a.a.on a.kind, thing_more a.a.off r.result a.kind r.ensures)

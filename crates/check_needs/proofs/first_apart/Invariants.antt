@@ -1,11 +1,11 @@
--- From j on the first one without a clash is the one that was looked for.
+-- From j on the first one without a clash is the one that was looked for, and j ends at the larger of the two bounds.
 use mathlib.Core.Path.{◌≡◌}
-use Prim.Native.Nat.{◌-◌}
+use Prim.Native.Nat.{◌≤◌, max}
 use Rattle.check_needs.specs.Words.{first_apart}
 use Rattle.check_needs.proofs.first_apart.Given as goal
 
 abbrev pub invariant-loop-j : goal.invariant-loop-j
-invariant-loop-j l = first_apart l.words l.a l.from l.to ≡ first_apart l.words l.a l.j l.to
-
-abbrev pub decreases-loop-j : goal.decreases-loop-j
-decreases-loop-j l = l.to - l.j
+invariant-loop-j l = record {
+  within : l.j ≤ max l.from l.to;
+  same : first_apart l.words l.a l.from l.to ≡ first_apart l.words l.a l.j l.to;
+}

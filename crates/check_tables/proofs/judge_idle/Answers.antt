@@ -1,29 +1,20 @@
-use Rattle.check_tables.specs.Verdicts.{idle_check, fails_at, all_pass}
-use Rattle.tables.specs.Given.{move_count_lem}
-use Rattle.meaning.specs.Check.{idle_passes}
-use borrow.Author.Count.{below_none, below_more}
-use native.Mathlib.Omega.{arith}
-use mathlib.Core.Bool.{true}
-use mathlib.Core.Path.{◌≡◌, sym, ◌∙◌}
+-- The words of the moves and those of the states tell which timers are idle.
+use Rattle.std.proofs.Common.{sym, rules, arith, ◌<◌, ◌/◌, length}
+use Rattle.meaning.specs.Tables.{state_count, move_count, source}
+use Rattle.tables.specs.Given.{given}
+use Rattle.check_needs.specs.Words.{need_words, WordsAt}
+use Rattle.check_tables.specs.Verdicts.{idle_check}
 use Rattle.check_tables.proofs.judge_idle.Goals as goal
 
-pub loop-i-init : goal.loop-i-init
-loop-i-init c = (omega arith, λ c' e r o w. below_none (λ m. idle_passes c' m ≡ true))
-
-pub returns-then-not-idle_passes : goal.returns-then-not-idle_passes
-returns-then-not-idle_passes c c' e r o w =
-    let n = move_count_lem c' _ e in
-    let b = c.loop-i in
-    let p = c.idle_passes in
-    sym (fails_at (idle_check c') b.i (omega arith) (b.invariant.1 c' e r o w) (sym (p.ensures c' e r (o b.i (omega arith)) (omega (arith, w.room)) (w.words b.i (omega arith))) ∙ c.if-not-idle_passes.true))
-
-pub loop-i-preserved : goal.loop-i-preserved
-loop-i-preserved c =
-    let b = c.loop-i in
-    let p = c.idle_passes in
-    (omega arith, λ c' e r o w. let n = move_count_lem c' _ e in below_more (λ m. idle_passes c' m ≡ true) b.i (b.invariant.1 c' e r o w) (sym (p.ensures c' e r (o b.i (omega arith)) (omega (arith, w.room)) (w.words b.i (omega arith))) ∙ c.if-not-idle_passes.false))
-
 pub returns : goal.returns
-returns c c' e r o w =
-    let n = move_count_lem c' _ e in
-    sym (all_pass (idle_check c') (λ m h. c.loop-i.invariant.1 c' e r o w m (omega arith)))
+returns c below o w =
+    let d = given c.args.t.now in
+    let n = c.args.needs.now in
+    c.judge.ensures (idle_check d) (sym c.move_count.ensures)
+    (λ i h b p.
+    let k : i < move_count d = omega (arith, h, c.move_count.ensures) in
+    let g : i < length n / need_words = omega (arith, w.room, h, c.move_count.ensures) in
+    let x : WordsAt d i n = w.words i k in
+    let y : source d i < state_count d = o i k in
+    search (rules, below, y, g, x))
+    (λ i h r p. search rules)

@@ -1,29 +1,16 @@
-use Rattle.check_tables.specs.Verdicts.{overlap_check, fails_at, all_pass, words_first}
-use Rattle.tables.specs.Given.{move_count_lem}
-use Rattle.meaning.specs.Check.{overlap_passes}
-use borrow.Author.Count.{below_none, below_more}
-use native.Mathlib.Omega.{arith}
-use mathlib.Core.Bool.{true}
-use mathlib.Core.Path.{◌≡◌, sym, ◌∙◌}
+-- The words of the moves tell which overlap.
+use Rattle.std.proofs.Common.{sym, rules, arith, ◌<◌, ◌/◌, length, suc}
+use Rattle.tables.specs.Given.{given}
+use Rattle.check_needs.specs.Words.{need_words, WordsTo}
+use Rattle.check_tables.specs.Verdicts.{overlap_check, words_first}
 use Rattle.check_tables.proofs.judge_overlap.Goals as goal
 
-pub loop-i-init : goal.loop-i-init
-loop-i-init c = (omega arith, λ c' e r o w. below_none (λ m. overlap_passes c' m ≡ true))
-
-pub returns-then-not-overlap_passes : goal.returns-then-not-overlap_passes
-returns-then-not-overlap_passes c c' e r o w =
-    let n = move_count_lem c' _ r in
-    let b = c.loop-i in
-    let p = c.overlap_passes in
-    sym (fails_at (overlap_check c') b.i (omega arith) (b.invariant.1 c' e r o w) (sym (p.ensures c' e r o (omega (arith, w.room)) (words_first c' _ w b.i (omega arith))) ∙ c.if-not-overlap_passes.true))
-
-pub loop-i-preserved : goal.loop-i-preserved
-loop-i-preserved c =
-    let b = c.loop-i in
-    let p = c.overlap_passes in
-    (omega arith, λ c' e r o w. let n = move_count_lem c' _ r in below_more (λ m. overlap_passes c' m ≡ true) b.i (b.invariant.1 c' e r o w) (sym (p.ensures c' e r o (omega (arith, w.room)) (words_first c' _ w b.i (omega arith))) ∙ c.if-not-overlap_passes.false))
-
 pub returns : goal.returns
-returns c c' e r o w =
-    let n = move_count_lem c' _ r in
-    sym (all_pass (overlap_check c') (λ m h. c.loop-i.invariant.1 c' e r o w m (omega arith)))
+returns c falls w =
+    let d = given c.args.t.now in
+    c.judge.ensures (overlap_check d) (sym c.move_count.ensures)
+    (λ i h b p.
+    let g : i < length c.args.needs.now / need_words = omega (arith, w.room, h, c.move_count.ensures) in
+    let x : WordsTo d (suc i) c.args.needs.now = words_first d c.args.needs.now w i (omega (arith, h, c.move_count.ensures)) in
+    search (rules, falls, g, x))
+    (λ i h r p. search rules)

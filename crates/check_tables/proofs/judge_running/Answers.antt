@@ -1,10 +1,14 @@
-use Prim.Native.Nat.{suc}
-use mathlib.Core.Path.{sym, ap, ◌∙◌}
-use Rattle.meaning.specs.Hierarchy.{paired}
+-- The words of the timers that run give those of the timers that all leaves below run.
+use Rattle.std.proofs.Common.{arith, ℕ, ◌≡◌, length, replicate}
+use Rattle.std.proofs.lemmas.List.{length-replicate, get_or-replicate}
+use Rattle.meaning.proofs.Laws.Rows.{get_d_equal}
 use Rattle.check_tables.proofs.judge_running.Goals as goal
 
 pub returns : goal.returns
-returns c c' e f g s o w hr hb z y =
-    let r = c.paired_words in
-    c.judge_idle.ensures c' f (c.run_below.ensures c'
-    (record { states = e; running = (λ l n h p. r.ensures c' e s.tree hr z l n h p ∙ ap (λ ps. paired c' ps (suc n) l) (sym g)); sound = s }) hb y) o w
+returns g c s o w few =
+    let n = g.row.STATES in
+    let none : length {A = ℕ} (replicate n 0) ≡ n = length-replicate {A = ℕ} n 0 in
+    let all : length {A = ℕ} (replicate n 18446744073709551615) ≡ n = length-replicate {A = ℕ} n 18446744073709551615 in
+    let running = c.paired_words.ensures s.tree (omega (arith, few, none)) (λ l. get_d_equal 0 n l) in
+    c.judge_idle.ensures
+    (c.run_below.ensures (record { running = running; sound = s }) (omega (arith, few, all)) (λ l h. get_or-replicate {A = ℕ} n l 18446744073709551615 0 (omega (arith, h, all)))) o w

@@ -1,5 +1,6 @@
 -- Words and instructions are one to one, and programs that fit have nothing but instructions.
-use Rattle.std.specs.Prelude.{◌≡◌, refl, ℕ, ◌+◌, ◌-◌, ◌/◌, ◌%◌, ◌≤◌, ◌<◌, Bool, true, false, ◌||◌, cond, leb, eqb}
+use Rattle.format.specs.Decode.{Decoded}
+use Rattle.std.specs.Prelude.{◌≡◌, refl, ℕ, ◌+◌, ◌-◌, ◌/◌, ◌%◌, ◌≤◌, ◌<◌, Bool, true, false, ◌||◌, cond, leb, eqb, Some, None}
 use Rattle.std.proofs.Common.{sym, ap, ◌∙◌, inl, inr, arith, true≢false, leb-true, leb-false, eqb-true, le-leb}
 use Rattle.std.proofs.Math.Bool.{or-false}
 use Rattle.std.proofs.lemmas.Bool.{false≢true, lt-leb}
@@ -11,8 +12,6 @@ use Rattle.meaning.specs.declared.Operand.{Operand}
 use Rattle.meaning.specs.declared.Operand.TheVariants.{Mx, Ix, Qx, TimerQ, TimerIn, TimerPt, Timer, False, True}
 use Rattle.meaning.specs.declared.Operator.{Operator}
 use Rattle.meaning.specs.declared.Operator.TheVariants.{Ld, Ldn, And, Andn, Or, Close, St, S, R, Cal, LdTime}
-use Rattle.format.specs.declared.Decoded.{Decoded}
-use Rattle.format.specs.declared.Decoded.TheVariants.{Known, Unknown}
 use Rattle.format.specs.Words.{operand_number, packed, word}
 use Rattle.format.specs.Decode.{parameter_fits, block_fits, operator_fits, operand_of, kept, unpacked, decoded}
 
@@ -46,9 +45,9 @@ operand_of_lem m =
 
 -- the answer is an instruction, and its word is operator k with operand m
 Right : ℕ → ℕ → Decoded → Type 0
-Right k m x = (i : Operator) → x ≡ Known i → (operator_fits i ≡ true) × (word i ≡ packed k m)
+Right k m x = (i : Operator) → x ≡ Some i → (operator_fits i ≡ true) × (word i ≡ packed k m)
 
-right_unknown : (k m : ℕ) → Right k m Unknown
+right_unknown : (k m : ℕ) → Right k m None
 unfolding Right
 right_unknown k m i e = let z : ◌≡◌ {A = ℕ} 0 1 = cc in absurd (omega arith)
 
@@ -56,7 +55,7 @@ right_kept : (k m : ℕ) (j : Operator) → (operator_fits j ≡ true → word j
 unfolding Right kept
 right_kept k m j h = by_test (Right k m) (operator_fits j) _ _ (λ e i p. (let q : j ≡ i = cc in (rw q at e, rw q at (h e)))) (λ e. right_unknown k m)
 
-right_bare : (k m c : ℕ) (j : Operator) → operator_fits j ≡ true → word j ≡ packed c 0 → eqb k c ≡ true → Right k m (cond (eqb m 0) (Known j) Unknown)
+right_bare : (k m c : ℕ) (j : Operator) → operator_fits j ≡ true → word j ≡ packed c 0 → eqb k c ≡ true → Right k m (cond (eqb m 0) (Some j) None)
 unfolding Right
 right_bare k m c j a b e = by_test (Right k m) _ _ _ (λ z i p. (let q : j ≡ i = cc in (rw q at a, rw (← q, eqb-true k c e, eqb-true m 0 z) b))) (λ z. right_unknown k m)
 
@@ -81,7 +80,7 @@ unpacked_right k m =
     by_test (Right k m) _ _ _ (right_with k m 10 Cal (λ o. refl) refl) λ _.
     by_test (Right k m) _ _ _ (λ e. right_kept k m (LdTime m) (λ h. rw (eqb-true k 11 e))) λ _. right_unknown k m
 
-pub word_decode : (n : ℕ) (i : Operator) → decoded n ≡ Known i → (operator_fits i ≡ true) × (word i ≡ n)
+pub word_decode : (n : ℕ) (i : Operator) → decoded n ≡ Some i → (operator_fits i ≡ true) × (word i ≡ n)
 unfolding decoded Right
 word_decode n i e = let r = unpacked_right (n / 134217728) (n % 134217728) i e in (r.0, r.1 ∙ omega arith)
 
@@ -141,13 +140,13 @@ unpack : (k m : ℕ) → m < 134217728 → decoded (packed k m) ≡ unpacked k m
 unfolding decoded
 unpack k m h = let e : packed k m / 134217728 ≡ k = omega arith in let f : packed k m % 134217728 ≡ m = omega arith in rw (e, f)
 
-kept_known : (i : Operator) → operator_fits i ≡ true → kept i ≡ Known i
+kept_known : (i : Operator) → operator_fits i ≡ true → kept i ≡ Some i
 unfolding kept
 kept_known i e = rw e
 
 -- an operator with an operand
 decode_with : (k : ℕ) (f : Operand → Operator) (o : Operand) → operand_fits o ≡ true → operator_fits (f o) ≡ true
-    → unpacked k (operand_number o) ≡ kept (f (operand_of (operand_number o))) → decoded (packed k (operand_number o)) ≡ Known (f o)
+    → unpacked k (operand_number o) ≡ kept (f (operand_of (operand_number o))) → decoded (packed k (operand_number o)) ≡ Some (f o)
 decode_with k f o a b e = unpack k (operand_number o) (operand_small o a) ∙ e ∙ rw (operand_back o a) (kept_known (f o) b)
 
 -- what an instruction carries is such an operand
@@ -165,7 +164,7 @@ carried_fits (R o) e = or_l _ _ (or_r (testable most_timers o || constant o) _ (
 carried_fits (Cal o) e = or_r ((testable most_timers o || constant o) || (flip_flop_fits o || output_fits o || parameter_fits o)) _ e
 carried_fits (LdTime n) e = refl
 
-pub decode_word : (i : Operator) → operator_fits i ≡ true → decoded (word i) ≡ Known i
+pub decode_word : (i : Operator) → operator_fits i ≡ true → decoded (word i) ≡ Some i
 unfolding word unpacked operator_fits carried
 decode_word (Ld o) e = decode_with 1 Ld o (carried_fits (Ld o) e) e refl
 decode_word (Ldn o) e = decode_with 2 Ldn o (carried_fits (Ldn o) e) e refl
@@ -180,7 +179,7 @@ decode_word (Cal o) e = decode_with 10 Cal o (carried_fits (Cal o) e) e refl
 decode_word (LdTime n) e = unpack 11 n (omega (arith, (within 1 most_preset n e).1)) ∙ kept_known (LdTime n) e
 
 pub word_same : (i j : Operator) → operator_fits i ≡ true → operator_fits j ≡ true → word i ≡ word j → i ≡ j
-word_same i j a b e = let h : Known i ≡ Known j = sym (decode_word i a) ∙ ap decoded e ∙ decode_word j b in cc
+word_same i j a b e = let h : Some i ≡ Some j = sym (decode_word i a) ∙ ap decoded e ∙ decode_word j b in cc
 
 -- an instruction's word has 32 bits
 pub word_small : (i : Operator) → operator_fits i ≡ true → word i < 4294967296

@@ -1,5 +1,6 @@
 -- The reader of words tells which lists are accepted, which go on, and where the others go wrong.
-use Rattle.std.specs.Prelude.{◌≡◌, refl, ◌↔◌, ℕ, suc, ◌≤◌, ◌<◌, true, false, ◌&&◌, List, [], ◌∷◌, ◌++◌, map, length, get_or, take, drop, leb}
+use Rattle.format.specs.Decode.{Decoded}
+use Rattle.std.specs.Prelude.{◌≡◌, refl, ◌↔◌, ℕ, suc, ◌≤◌, ◌<◌, true, false, ◌&&◌, List, [], ◌∷◌, ◌++◌, map, length, get_or, take, drop, leb, Some, None}
 use Rattle.std.proofs.Common.{sym, ap, ap₂, ◌∙◌, arith, true≢false, take-append-drop, take-take, take-suc, leb-true}
 use Rattle.std.proofs.Math.Decide.{dec_le}
 use Rattle.std.proofs.lemmas.Bool.{false≢true}
@@ -8,8 +9,6 @@ use Rattle.meaning.proofs.Laws.Rows.{and_l, and_r, and_both, false_by}
 use Rattle.meaning.specs.Tables.{most_timers}
 use Rattle.meaning.specs.Programs.{Program, instructions, all, timer_rung_fits, program_fits}
 use Rattle.meaning.specs.declared.Operator.{Operator}
-use Rattle.format.specs.declared.Decoded.{Decoded}
-use Rattle.format.specs.declared.Decoded.TheVariants.{Known, Unknown}
 use Rattle.format.specs.declared.Reading.{Reading}
 use Rattle.format.specs.Words.{word, words, AcceptedWords}
 use Rattle.format.specs.Places.{Continues, Place, WordPlace}
@@ -36,8 +35,8 @@ after_words_append (n ∷ l) m s = after_words_append l m (step_word s (decoded 
 
 step_alive : (s : Reading) (n : ℕ) (x : Decoded) → decoded n ≡ x → alive (step_word s x) ≡ true → alive s ≡ true
 unfolding step_word alive
-step_alive s n (Known i) e a = moves_from (step_moves s i (word_decode n i e).0 a)
-step_alive s n Unknown e a = absurd (false≢true a)
+step_alive s n (Some i) e a = moves_from (step_moves s i (word_decode n i e).0 a)
+step_alive s n None e a = absurd (false≢true a)
 
 pub alive_words : (l : List ℕ) (s : Reading) → alive (after_words s l) ≡ true → alive s ≡ true
 unfolding after_words
@@ -51,8 +50,8 @@ read_words [] s a = ([], refl, refl)
 read_words (n ∷ l) s a = go (decoded n) refl (alive_words l (step_word s (decoded n)) a) (read_words l (step_word s (decoded n)) a)
   where
     go : (x : Decoded) → decoded n ≡ x → alive (step_word s x) ≡ true → (is : List Operator) × (all operator_fits is ≡ true) × (map word is ≡ l) → (is : List Operator) × (all operator_fits is ≡ true) × (map word is ≡ n ∷ l)
-    go (Known i) e b r = (i ∷ r.0, and_both _ _ (word_decode n i e).0 r.1, ap₂ ◌∷◌ (word_decode n i e).1 r.2)
-    go Unknown e b r = absurd (false≢true b)
+    go (Some i) e b r = (i ∷ r.0, and_both _ _ (word_decode n i e).0 r.1, ap₂ ◌∷◌ (word_decode n i e).1 r.2)
+    go None e b r = absurd (false≢true b)
 
 pub fits_small : (p : Program) → program_fits p ≡ true → length p.timers ≤ most_timers
 unfolding program_fits

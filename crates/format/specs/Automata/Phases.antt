@@ -1,12 +1,11 @@
 -- Reading instructions one by one: what the reader knows, what it can go on with, and where it may end.
-use Rattle.std.specs.Prelude.{ℕ, suc, max, Bool, ◌&&◌, ◌||◌, not, cond, List, [], ◌∷◌, leb, eqb}
+use Rattle.format.specs.Decode.{Decoded}
+use Rattle.std.specs.Prelude.{ℕ, suc, max, Bool, ◌&&◌, ◌||◌, not, cond, List, [], ◌∷◌, leb, eqb, Some, None}
 use Rattle.meaning.specs.Tables.{most_timers}
 use Rattle.meaning.specs.declared.Operand.{Operand}
 use Rattle.meaning.specs.declared.Operand.TheVariants.{Mx, Ix, Qx, TimerQ, TimerIn, TimerPt, Timer, False, True}
 use Rattle.meaning.specs.declared.Operator.{Operator}
 use Rattle.meaning.specs.declared.Operator.TheVariants.{Ld, Ldn, And, Andn, Or, Close, St, S, R, Cal, LdTime}
-use Rattle.format.specs.declared.Decoded.{Decoded}
-use Rattle.format.specs.declared.Decoded.TheVariants.{Known, Unknown}
 use Rattle.format.specs.declared.Phase.{Phase}
 use Rattle.format.specs.declared.Phase.TheVariants.{Between, Body, Opened, Inside, Stored, GivenIn, GivenTime}
 use Rattle.format.specs.declared.Phase.TheVariants.{GivenPt, Refused}
@@ -137,8 +136,8 @@ may_end s = (at Between s || at Stored s) && leb s.named s.timers
 -- ---- by words
 
 unfoldable pub step_word : Reading → Decoded → Reading
-step_word s (Known i) = phase_step s i
-step_word s Unknown = to Refused s
+step_word s (Some i) = phase_step s i
+step_word s None = to Refused s
 
 unfoldable pub after_words : Reading → List ℕ → Reading
 after_words s [] = s

@@ -1,18 +1,27 @@
-use Rattle.std.proofs.Common.{refl, sym, ◌∙◌, arith}
-use Rattle.il_run.specs.RowLaws.{time_on, time_end}
+-- One block more in its time, one out of it, and that none is left in the end.
+use Rattle.std.proofs.Common.{◌≡◌, ◌+◌, true, false, drop, get_or, sym, ◌∙◌, arith}
+use Rattle.meaning.specs.Scan.{blank}
+use Rattle.il_block.specs.Called.{in_its_time}
+use Rattle.il_run.specs.RowLaws.{time_on, time_end, time_out}
 use Rattle.il_run.proofs.in_time.Goals as goal
 
-pub loop-i-init : goal.loop-i-init
-loop-i-init c = record { within = omega arith; on = refl }
+pub returns-then-not-in_its_time : goal.returns-then-not-in_its_time
+returns-then-not-in_its_time c =
+    let bs = c.args.blocks.now in
+    let t = c.times_of-times.result in
+    let i = c.loop-i.i in
+    let e : in_its_time i (get_or bs i blank) t ≡ false = sym c.in_its_time.ensures ∙ c.if-not-in_its_time.true in
+    rw (← c.times_of-times.ensures) (sym (time_out (drop (i + 1) bs) t (i + 1)) ∙ sym (rw e at (time_on bs t i true (omega arith))) ∙ c.loop-i.invariant)
 
 pub loop-i-preserved : goal.loop-i-preserved
 loop-i-preserved c =
-    let l = c.loop-i in
+    let bs = c.args.blocks.now in
     let t = c.times_of-times.result in
-    record { within = omega arith; on = rw (c.also_in_time-ok.ensures, c.at-b.ensures) (sym (time_on c.args.blocks.now t l.i l.ok (omega arith)) ∙ l.invariant.on) }
+    let i = c.loop-i.i in
+    let e : in_its_time i (get_or bs i blank) t ≡ true = sym c.in_its_time.ensures ∙ c.if-not-in_its_time.false in
+    sym (rw e at (time_on bs t i true (omega arith))) ∙ c.loop-i.invariant
 
 pub returns : goal.returns
 returns c =
     let l = c.loop-i in
-    let t = c.times_of-times.result in
-    rw (← c.times_of-times.ensures) (sym (time_end c.args.blocks.now t l.i l.ok (omega arith)) ∙ l.invariant.on)
+    rw (← c.times_of-times.ensures) (sym (time_end c.args.blocks.now c.times_of-times.result l.i true (omega arith)) ∙ l.invariant)

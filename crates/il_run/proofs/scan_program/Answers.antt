@@ -1,9 +1,13 @@
-use Rattle.std.proofs.Common.{sym, ◌∙◌}
+-- What is refused is refused by the checks, and what is not is scanned.
+use Rattle.std.proofs.Common.{refl}
+use Rattle.std.proofs.lemmas.Result.{err_from_is_err_and}
 use Rattle.il_run.specs.RunLaws.{scan_done, scan_refused}
 use Rattle.il_run.proofs.scan_program.Goals as goal
 
-pub returns-then-accepted : goal.returns-then-accepted
-returns-then-accepted c = scan_done c.in_time-timely.ensures c.judge-v.ensures (sym c.accepted.ensures ∙ c.if-accepted.true) c.scan-w.ensures c.outputs.ensures
+pub returns-in_err-judge : goal.returns-in_err-judge
+returns-in_err-judge c =
+    let p = err_from_is_err_and c.from_residual.result c.from_residual.ensures.1 in
+    rw (p.1, p.2) (scan_refused c.in_time-timely.ensures c.in_err-judge.ensures)
 
 pub returns : goal.returns
-returns c = scan_refused c.in_time-timely.ensures c.judge-v.ensures (sym c.accepted.ensures ∙ c.if-accepted.false) c.not_scanned.ensures
+returns c = scan_done c.in_time-timely.ensures c.in_ok-judge.ensures c.scan.ensures refl

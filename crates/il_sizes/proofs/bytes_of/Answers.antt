@@ -1,28 +1,24 @@
-use Rattle.il_sizes.specs.Bytes.{bytes_in, bytes_tested, bytes_stored, bytes_bracket}
-use Rattle.format.specs.Decode.{decoded, unpacked}
-use native.Mathlib.Numerals.{add-one}
-use Prim.Native.Nat.{◌+◌, ◌/◌, ◌%◌}
-use mathlib.Core.Path.{◌≡◌}
-use native.Mathlib.Omega.{arith}
+-- The words whose two numbers tell it at once.
+use Rattle.std.proofs.Common.{◌≡◌, ◌/◌, ◌%◌, arith}
+use Rattle.il_sizes.specs.Bytes.{bytes_tested, bytes_stored, bytes_bracket}
+use Rattle.format.specs.Decode.{decoded}
 use Rattle.il_sizes.proofs.bytes_of.Goals as goal
 
-pub returns-then-k-gt0 : goal.returns-then-k-gt0
+pub returns-in-1-to-4 : goal.returns-in-1-to-4
 unfolding decoded
-returns-then-k-gt0 c = let a = c.args in rw add-one (bytes_tested (a.w / 134217728) (a.w % 134217728) (omega arith) (omega arith) (omega arith))
+returns-in-1-to-4 c =
+    let w = c.args.w in
+    omega (arith, bytes_tested (w / 134217728) (w % 134217728) (omega arith) (omega arith) (omega arith))
 
-pub returns-then-k-lt10 : goal.returns-then-k-lt10
+pub returns-in-5-to-6 : goal.returns-in-5-to-6
 unfolding decoded
-returns-then-k-lt10 c =
-    let a = c.args in
-    let e : a.w % 134217728 + 1 ≡ bytes_in (unpacked (a.w / 134217728) (a.w % 134217728)) = rw add-one (bytes_stored (a.w / 134217728) (a.w % 134217728) (omega arith) (omega arith) (omega arith)) in
-    e
+returns-in-5-to-6 c =
+    let w = c.args.w in
+    let m : w % 134217728 ≡ 0 = omega arith in
+    rw m (bytes_bracket (w / 134217728) (omega arith) (omega arith))
 
-pub returns-then-m-lt1 : goal.returns-then-m-lt1
+pub returns-in-7-to-9 : goal.returns-in-7-to-9
 unfolding decoded
-returns-then-m-lt1 c =
-    let a = c.args in
-    let m : a.w % 134217728 ≡ 0 = omega arith in
-    rw m (bytes_bracket (a.w / 134217728) (omega arith) (omega arith))
-
-pub returns : goal.returns
-returns c = rw (← c.decode.ensures) c.bytes_in.ensures
+returns-in-7-to-9 c =
+    let w = c.args.w in
+    omega (arith, bytes_stored (w / 134217728) (w % 134217728) (omega arith) (omega arith) (omega arith))

@@ -1,38 +1,30 @@
-use Rattle.il_times.specs.Sizes.{Rungs, rungs_on, rungs_end, rung_called, rung_none}
+-- A word that calls a block gives it the time loaded last; any other leaves the times.
+use Rattle.std.proofs.Common.{get_or, length-set, sym, ap, ◌∙◌, arith}
 use Rattle.format.specs.Decode.{decoded}
-use lib.ListN.{get_or, length-set}
-use native.Mathlib.Omega.{arith}
-use mathlib.Core.Path.{refl, sym, ap, ◌∙◌}
+use Rattle.il_times.specs.Sizes.{Rungs, rungs_on, rungs_end, rung_called, rung_none}
 use Rattle.il_times.proofs.times_of.Goals as goal
-use Rattle.il_times.proofs.times_of.Goals.{then-k-lt32, else-k-lt32}
+use Rattle.il_times.proofs.times_of.Goals.{in-Some, in_default}
 
-pub loop-i-init : goal.loop-i-init
-loop-i-init c = (omega arith, refl, refl)
-
-pub loop-i-preserved : goal.loop-i-preserved
-loop-i-preserved c =
-    let l = c.loop-i in
-    let a = c.args in
-    let i = decoded (get_or a.words.now l.i 0) in
-    let k = c.word_due-k.ensures in
+pub loop-w-preserved : goal.loop-w-preserved
+loop-w-preserved c =
+    let l = c.loop-w in
+    let ws = c.args.words.now in
+    let i = decoded (get_or ws l.w-index 0) in
     let t = c.time_of-time.ensures in
-    let o = rungs_on a.words.now l.i (record { time = l.time; times = l.times }) (omega arith) in
-    elim c.if-k-lt32.branch [
-      | then-k-lt32 w ↦ (
-        omega arith,
-        rw w.times-is (length-set l.times c.word_due-k.result c.time_of-time.result ∙ l.invariant.1),
-        rw (w.times-is, k, t) ((rw (rung_called i l.time l.times (rw k at w.if-k-lt32.true)) at (sym o)) ∙ l.invariant.2),
-      )
-      | else-k-lt32 w ↦ (
-        omega arith,
-        rw w.times-is l.invariant.1,
-        rw (w.times-is, t) ((rw (rung_none i l.time l.times (rw k at w.if-k-lt32.false)) at (sym o)) ∙ l.invariant.2),
-      )
+    let o = rungs_on ws l.w-index (record { time = l.time; times = l.times }) (omega arith) in
+    elim c.match-word_due.branch [
+      | in-Some w ↦ let k = w.in-Some.ensures.block in record {
+        long = rw w.times-is (length-set l.times _ _ ∙ l.invariant.long);
+        on = rw (w.times-is, k, t) ((rw (rung_called i l.time l.times (rw k at w.in-Some.ensures.within)) at (sym o)) ∙ l.invariant.on);
+      }
+      | in_default w ↦ record {
+        long = rw w.times-is l.invariant.long;
+        on = rw (w.times-is, t) ((rw (rung_none i l.time l.times (omega (arith, w.in_default.ensures.block))) at (sym o)) ∙ l.invariant.on);
+      }
     ]
 
 pub returns : goal.returns
 returns c =
-    let l = c.loop-i in
-    let a = c.args in
-    let e = sym l.invariant.2 ∙ rungs_end a.words.now l.i (record { time = l.time; times = l.times }) (omega arith) in
+    let l = c.loop-w in
+    let e = sym l.invariant.on ∙ rungs_end c.args.words.now l.w-index (record { time = l.time; times = l.times }) (omega arith) in
     sym (ap (λ (r : Rungs). r.times) e)

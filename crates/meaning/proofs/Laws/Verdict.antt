@@ -1,5 +1,5 @@
 -- The verdict in words: accepted exactly when every rule is kept, and each refusal given exactly when its rule is the first broken, at the least row.
-use Rattle.std.specs.Prelude.{◌≡◌, refl, ◌⊎◌, ◌↔◌, ℕ, suc, ◌<◌, Bool, true, false, not, eqb}
+use Rattle.std.specs.Prelude.{◌≡◌, refl, ◌⊎◌, ◌↔◌, ℕ, suc, ◌<◌, Bool, true, false, not, eqb, Ok, Err}
 use Rattle.std.proofs.Common.{sym, ap, ◌∙◌, inl, inr, arith, true≢false, eqb-true}
 use Rattle.std.proofs.Math.Logic.Iff.{trans}
 use Rattle.std.proofs.Math.Decide.{ℕ_discrete, dec_le}
@@ -13,7 +13,6 @@ use Rattle.meaning.specs.Rules.{Rules, SizeRule, HierarchyRule, InitialRule, Pre
 use Rattle.meaning.specs.Check.{Check, first_failing, verdict_of, checks, verdict}
 use Rattle.meaning.proofs.Laws.Rules.{size_tells, hierarchy_tells, initial_tells, preset_tells, pair_tells, move_tells, literal_tells, idle_tells, overlap_tells, flip_flop_tells}
 use Rattle.meaning.specs.declared.Refusal.{Refusal}
-use Rattle.meaning.specs.declared.Verdict.TheVariants.{Accepted, Refused}
 
 -- a check together with the rule, in words, that its test stands for
 pub record RuledCheck : Type 1 where
@@ -107,7 +106,7 @@ Tells [] = Unit {0}
 Tells (k ∷ ks) = TellsRule k × (Passes k.check → Tells ks)
 
 -- the law for refusals, for any list of checks
-refused_of : (ks : List RuledCheck) → Tells ks → (r : Refusal) → (verdict_of (map (λ k. k.check) ks) ≡ Refused r) ↔ GivenBy ks r
+refused_of : (ks : List RuledCheck) → Tells ks → (r : Refusal) → (verdict_of (map (λ k. k.check) ks) ≡ Err r) ↔ GivenBy ks r
 unfolding verdict_of GivenBy Tells
 refused_of [] t r = ((λ e. false≢true (cc)), absurd)
 refused_of (k ∷ ks) t r = elim (which (eqb (first_failing k.check) k.check.rows)) [
@@ -119,7 +118,7 @@ refused_of (k ∷ ks) t r = elim (which (eqb (first_failing k.check) k.check.row
   | inr e ↦ (
       let q = k.check.refusal (first_failing k.check) in
       let f : Broken k q = failed k t.0 e in
-      rw (verdict_of, e) ((λ v. let z : q ≡ r = cc in inl (rw z at f)), elim [ inl b ↦ ap Refused (one_refusal k q r f b) | inr g ↦ absurd (kept_or_broken k q g.0 f) ]))
+      rw (verdict_of, e) ((λ v. let z : q ≡ r = cc in inl (rw z at f)), elim [ inl b ↦ ap Err (one_refusal k q r f b) | inr g ↦ absurd (kept_or_broken k q g.0 f) ]))
 ]
 
 -- every check of the list is kept
@@ -128,7 +127,7 @@ AllKept [] = Unit {0}
 AllKept (k ∷ ks) = Kept k × AllKept ks
 
 -- the law for acceptance, for any list of checks
-accepted_of : (ks : List RuledCheck) → Tells ks → (verdict_of (map (λ k. k.check) ks) ≡ Accepted) ↔ AllKept ks
+accepted_of : (ks : List RuledCheck) → Tells ks → (verdict_of (map (λ k. k.check) ks) ≡ (Ok tt)) ↔ AllKept ks
 unfolding verdict_of AllKept Tells
 accepted_of [] t = ((λ e. tt), (λ u. refl))
 accepted_of (k ∷ ks) t = elim (which (eqb (first_failing k.check) k.check.rows)) [
@@ -167,7 +166,7 @@ told c =
     )
 
 -- each refusal is given exactly when its rule is broken at the row it names, no earlier row breaks it, and every earlier check is kept
-pub refused_exactly : (c : Tables) (r : Refusal) → (verdict c ≡ Refused r) ↔ GivenBy (ruled c) r
+pub refused_exactly : (c : Tables) (r : Refusal) → (verdict c ≡ Err r) ↔ GivenBy (ruled c) r
 unfolding verdict
 refused_exactly c r = rw (verdict, ← same_checks c) (refused_of (ruled c) (told c) r)
 
@@ -177,7 +176,7 @@ unfolding AllKept ruled checks zip_with
 all_kept_tells c = ((λ g. search (g.0 0 (omega arith), g.1.1.1.1.1.1.1.1.1.1.0 0 (omega arith))), (λ r. search depth 14))
 
 -- accepted exactly when no rule is broken
-pub accepted_exactly : (c : Tables) → (verdict c ≡ Accepted) ↔ Rules c
+pub accepted_exactly : (c : Tables) → (verdict c ≡ (Ok tt)) ↔ Rules c
 unfolding verdict
 accepted_exactly c = rw (verdict, ← same_checks c) (trans (accepted_of (ruled c) (told c)) (all_kept_tells c))
 

@@ -1,23 +1,13 @@
-use mathlib.Core.Path.{◌≡◌}
-use Prim.Native.Nat.{ℕ, ◌+◌, ◌<◌}
-use mathlib.Core.List.{List}
-use native.Mathlib.Numerals.{add-one}
-use native.Mathlib.Omega.{arith}
-use lib.ListN.{length}
+-- One line more, and at the end all of them.
+use Rattle.std.proofs.Common.{◌≡◌, ◌+◌, ◌<◌, List, ℕ, arith, add-one, length}
 use lib.Seq.{take_all}
-use Rattle.write_lines.specs.Put.{put_put, put_none, put_length}
+use Rattle.write_lines.specs.Put.{put_put, put_none}
 use Rattle.print_lines.specs.Results.{scan_lines_from, lines_more}
 use Rattle.print_lines.proofs.put_scans.Goals as goal
 
 pub loop-i-init : goal.loop-i-init
 unfolding scan_lines_from
-loop-i-init c = (omega arith, put_none _ _ (omega arith) (omega arith))
-
-pub shape_of-out-then-outputs-i : goal.shape_of-out-then-outputs-i
-shape_of-out-then-outputs-i c = put_length c.loop-i.invariant.1
-
-pub returns-then-outputs-i : goal.returns-then-outputs-i
-returns-then-outputs-i c = λ e. absurd (omega (arith, e))
+loop-i-init c = put_none _ _ (omega arith) (omega arith)
 
 pub loop-i-preserved : goal.loop-i-preserved
 loop-i-preserved c =
@@ -26,10 +16,7 @@ loop-i-preserved c =
     let h : c.loop-i.i < length ls = omega arith in
     let g : c.loop-i.i < length os = omega arith in
     let e : 1 + c.loop-i.i ≡ c.loop-i.i + 1 = omega arith in
-    (omega arith, rw (add-one, lines_more 1 c.loop-i.i ls os h g, e) (put_put c.loop-i.invariant.1 c.put_scan-p.ensures))
-
-pub shape_of-out : goal.shape_of-out
-shape_of-out c = put_length c.loop-i.invariant.1
+    rw (add-one, lines_more 1 c.loop-i.i ls os h g, e) (put_put c.loop-i.invariant c.put_scan-p.ensures)
 
 pub returns : goal.returns
-returns c = λ e. rw (take_all c.loop-i.i c.args.leaves.now (omega arith), take_all c.loop-i.i c.args.outputs.now (omega (arith, e))) at c.loop-i.invariant.1
+returns c = λ e. rw (take_all c.loop-i.i c.args.leaves.now (omega (arith, e)), take_all c.loop-i.i c.args.outputs.now (omega (arith, e))) at c.loop-i.invariant

@@ -1,14 +1,18 @@
 -- Where LITERAL passes, the words are the sets of the move.
-use Rattle.print_needs.specs.Lines.{needs_line_lem}
-use Rattle.meaning.specs.Needs.{needs_on, needs_off}
+use Rattle.std.proofs.Common.{◌≡◌, ◌∙◌, true, false, true≢false, sym}
 use Prim.Native.Nat.{ℕ}
-use mathlib.Core.Path.{◌∙◌}
+use Rattle.meaning.specs.Needs.{needs_on, needs_off}
+use Rattle.tables.specs.Given.{given}
 use Rattle.write_lines.specs.Put.{put_put}
+use Rattle.print_needs.specs.Lines.{needs_line_lem}
 use Rattle.print_needs.proofs.put_move.Goals as goal
 
-pub returns : goal.returns
-returns c c' l e =
-    let n = c.needs_of-a.ensures c' l.inputs l.timers l.moves in
-    let w = n.1 (n.0 ∙ e) in
+pub returns-in-Some : goal.returns-in-Some
+returns-in-Some c e =
+    let d = given c.args.t.now in
     let i : ℕ = c.args.i in
-    rw (← needs_line_lem c' i) (put_put (c.put_way-p.ensures c' l.states l.moves) (c.put_sets.ensures (needs_on c' i) (needs_off c' i) w.on w.off))
+    let w = c.in-Some.ensures.needs in
+    rw (← needs_line_lem d i) (put_put c.put_way-p.ensures (c.put_sets.ensures (needs_on d i) (needs_off d i) w.on w.off))
+
+pub returns-in-None : goal.returns-in-None
+returns-in-None c e = absurd (true≢false (sym (c.in-None.ensures.passes ∙ e)))

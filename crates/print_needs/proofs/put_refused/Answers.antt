@@ -1,39 +1,34 @@
--- By the number of the refusal: below 9 and above 11 its line alone, 10 with the pair.
-use mathlib.Core.Path.{◌≡◌, ◌∙◌}
-use Prim.Native.Nat.{ℕ, ◌≤◌}
-use native.Mathlib.Omega.{arith}
-use Rattle.meaning.specs.Refusals.{number_of, place_of}
+-- By which refusal it is: its line alone, below the table, or below the table and the pair.
+use Rattle.std.proofs.Common.{◌≡◌, ◌∙◌, arith, ap, refl, ℕ, Err}
+use Rattle.meaning.specs.declared.Refusal.TheVariants as R
 use Rattle.meaning.specs.Needs.{both_on, both_off}
-use Rattle.meaning.specs.Check.{earlier}
+use Rattle.meaning.specs.Check.{earlier, verdict}
+use Rattle.tables.specs.Given.{given}
 use Rattle.write_lines.specs.Put.{put_put}
 use Rattle.print_needs.specs.Lines.{overlap_line_lem}
-use Rattle.print_needs.specs.Page.{page_low, page_high, page_known, page_overlap, overlap_shown}
+use Rattle.print_needs.specs.Page.{page_other, page_known, without_pair, page_overlap, overlap_shown}
 use Rattle.check_witness.specs.Passed.{refused_passed}
 use Rattle.print_needs.proofs.put_refused.Goals as goal
 
-pub returns-then-n-lt9 : goal.returns-then-n-lt9
-returns-then-n-lt9 c c' l s e = rw (← page_low c' c.args.r (omega (arith, c.number-n.ensures))) c.put_refusal.ensures
+pub returns-in_default : goal.returns-in_default
+returns-in_default c w e =
+    let n = c.in_default in
+    rw (← page_other (given c.args.t.now) c.args.r n.not-IdleTimer n.not-Overlap n.not-FlipFlops) c.put_refusal-in_default.ensures
 
-pub returns-then-n-gt11 : goal.returns-then-n-gt11
-returns-then-n-gt11 c c' l s e = rw (← page_high c' c.args.r (omega (arith, c.number-n.ensures))) c.put_refusal-then-n-gt11.ensures
-
-pub returns-then-n-ne10 : goal.returns-then-n-ne10
-returns-then-n-ne10 c c' l s e =
+pub returns-in-IdleTimer : goal.returns-in-IdleTimer
+returns-in-IdleTimer c s e =
     let r = c.args.r in
-    let k = c.number-n.ensures in
-    let h : 9 ≤ number_of r = omega (arith, k, c.if-n-lt9.false) in
-    let g : number_of r ≤ 11 = omega (arith, k, c.if-n-gt11.false) in
-    rw (← page_known c' r h g (λ z. c.if-n-ne10.true (k ∙ z)))
-    (put_put (c.put_table-p.ensures c' l (refused_passed c' r e h).literals) c.put_refusal-then-n-ne10.ensures)
+    let d = given c.args.t.now in
+    let n = without_pair r c.in-IdleTimer.is in
+    rw (← page_known d r n.0 n.1 n.2) (put_put (c.put_table-p.ensures (refused_passed d r e n.0).literals) c.put_refusal.ensures)
 
-pub returns : goal.returns
-returns c c' l s e =
+pub returns-in-Overlap : goal.returns-in-Overlap
+returns-in-Overlap c s e =
     let r = c.args.r in
-    let w = c.args.w in
-    let k = c.number-n.ensures in
-    let n : number_of r ≡ 10 = omega (arith, k, c.if-n-ne10.false) in
-    let o = overlap_shown c' w r s e n in
-    let i : ℕ = place_of r in
-    let q = rw (o.earlier, o.state, c.place.ensures) at (c.put_overlap-q.ensures (both_on c' (earlier c' i) i) (both_off c' (earlier c' i) i) o.on o.off) in
-    rw (← page_overlap c' r n, ← overlap_line_lem c' i)
-    (put_put (c.put_table-p.ensures c' l (refused_passed c' r e (omega arith)).literals) (put_put q c.put_refusal-2.ensures))
+    let d = given c.args.t.now in
+    let i : ℕ = c.in-Overlap.later in
+    let v : verdict d ≡ Err (R.Overlap i) = e ∙ ap Err c.in-Overlap.is in
+    let o = overlap_shown d c.args.w.now (R.Overlap i) s v refl in
+    let q = rw (o.earlier, o.state) at (c.put_overlap-q.ensures (both_on d (earlier d i) i) (both_off d (earlier d i) i) o.on o.off) in
+    rw (c.in-Overlap.is, ← page_overlap d (R.Overlap i) refl, ← overlap_line_lem d i)
+    (put_put (c.put_table-p-in-Overlap.ensures (refused_passed d (R.Overlap i) v (omega arith)).literals) (put_put q c.put_refusal-in-Overlap.ensures))

@@ -3,7 +3,7 @@ use Rattle.print_needs.specs.Names.{set_put, things_some, things_none}
 use Rattle.print_needs.proofs.put_things.Goals as goal
 
 pub returns-then-q : goal.returns-then-q
-returns-then-q c = things_some (set_put c.put_inputs-p.ensures c.put_timers-q.ensures) c.if-q.true
+returns-then-q c = things_some (set_put c.put_names-p.ensures c.put_names-q.ensures) c.if-q.true
 
 pub returns : goal.returns
-returns c = things_none (set_put c.put_inputs-p.ensures c.put_timers-q.ensures) c.if-q.false c.put.ensures
+returns c = things_none (set_put c.put_names-p.ensures c.put_names-q.ensures) c.if-q.false c.put.ensures

@@ -3,7 +3,7 @@ use Rattle.write_lines.specs.Put.{put_put}
 use Rattle.print_needs.proofs.put_way.Goals as goal
 
 pub returns : goal.returns
-returns c c' e f =
-    let up = rw (c.source.ensures c' f) at (c.put_upward-q.ensures c' e) in
-    let to = rw (c.target.ensures c' f) at c.put_cell.ensures in
+returns c =
+    let up = rw c.source.ensures at c.put_upward-q.ensures in
+    let to = rw c.target.ensures at c.put_cell.ensures in
     put_put c.put_cell-p.ensures (put_put up (put_put c.put-s.ensures to))

@@ -1,9 +1,9 @@
-use mathlib.Core.Path.{sym, ◌∙◌}
-use Rattle.print_text.specs.Print.{printed_refused, printed_rows}
+-- Whatever was answered and stored, a page has no more bytes than fit.
+use Rattle.print_text.specs.Lengths.{refused_few, rows_few}
 use Rattle.print_text.proofs.print.Goals as goal
 
-pub returns-in-Refused : goal.returns-in-Refused
-returns-in-Refused c = let s = c.args in printed_refused s.page s.answers s.frame.now s.states.now s.moves.now s.presets.now s.timer_pairs.now s.output_pairs.now s.scans.now _ _ _ _ (sym c.fields_pass-v.ensures ∙ c.in-Refused.is) c.print_refusal.ensures
+pub returns-in-Err-clause-room : goal.returns-in-Err-clause-room
+returns-in-Err-clause-room c = refused_few _ _ _ _ c.print_refusal.ensures
 
-pub returns-in-Accepted : goal.returns-in-Accepted
-returns-in-Accepted c = let s = c.args in printed_rows s.page s.answers s.frame.now s.states.now s.moves.now s.presets.now s.timer_pairs.now s.output_pairs.now s.scans.now _ _ _ (sym c.fields_pass-v.ensures ∙ c.in-Accepted.is) (c.print_rows.ensures s.answers c.count_rows.ensures s.frame.now c.chart_of.ensures)
+pub returns-in-Ok-clause-room : goal.returns-in-Ok-clause-room
+returns-in-Ok-clause-room c = rows_few _ c.args.answers c.args.stored.now _ _ _ c.print_rows.ensures

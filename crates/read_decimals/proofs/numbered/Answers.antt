@@ -1,34 +1,28 @@
-use Prim.Native.Nat.{◌-◌}
+-- Where head or tail do not stand, there is no decimal between them; where they do, it is the decimal of the part between.
+use Rattle.std.proofs.Common.{◌++◌, sym, ◌∙◌, None, Some}
+use Rattle.std.proofs.lemmas.Bool.Decides.{Decides-eqb}
+use Rattle.std.proofs.lemmas.Slice.Eq.{strip_prefix_is, strip_suffix_is}
 use Rattle.format.specs.Text.{decimal}
-use mathlib.Core.Bool.{false≢true}
-use mathlib.Core.Path.{sym, ◌∙◌}
-use native.Mathlib.Omega.{arith}
-use lib.ListN.{length}
-use lib.Seq.{length-take-le}
-use Rattle.read_decimals.specs.FormLaws.{cut, spells_part, part_back}
+use Rattle.read_decimals.specs.FormLaws.{behind, spells_between}
 use Rattle.read_decimals.proofs.numbered.Goals as goal
 
-pub returns-then-s-head : goal.returns-then-s-head
-returns-then-s-head c = let a = c.args in
-    λ n p q e. omega (arith, (cut a.head.now a.tail.now a.s.now (decimal n) e).total)
+pub returns-in_err-strip_prefix : goal.returns-in_err-strip_prefix
+returns-in_err-strip_prefix c =
+    let a = c.args in
+    rw c.from_residual.ensures (λ n p q e. strip_prefix_is Decides-eqb a.s.now a.head.now None c.in_err-strip_prefix.ensures.cases (decimal n ++ a.tail.now) (sym e))
 
-pub returns-then-s-from : goal.returns-then-s-from
-returns-then-s-from c = let a = c.args in
-    λ n p q e. omega (arith, (cut a.head.now a.tail.now a.s.now (decimal n) e).total)
-
-pub slice_bounds-same-end : goal.slice_bounds-same-end
-slice_bounds-same-end c = sym (length-take-le (length c.args.head.now) c.args.s.now (omega arith))
-
-pub returns-then-not-same : goal.returns-then-not-same
-returns-then-not-same c = let a = c.args in
-    λ n p q e. false≢true (sym (c.if-not-same.true) ∙ c.same.ensures.1 (cut a.head.now a.tail.now a.s.now (decimal n) e).front)
-
-pub returns-then-not-same-2 : goal.returns-then-not-same-2
-returns-then-not-same-2 c = let a = c.args in
-    λ n p q e. false≢true (sym (c.if-not-same-2.true) ∙ c.same-2.ensures.1 ((cut a.head.now a.tail.now a.s.now (decimal n) e).back ∙ sym (part_back a.s.now (length a.s.now - length a.tail.now))))
+pub returns-in_err-strip_suffix : goal.returns-in_err-strip_suffix
+returns-in_err-strip_suffix c =
+    let a = c.args in
+    let x = c.in_ok-strip_prefix.field-0 in
+    let e = strip_prefix_is Decides-eqb a.s.now a.head.now (Some x) c.in_ok-strip_prefix.ensures.cases in
+    rw c.from_residual-in_err-strip_suffix.ensures (λ n p q f. strip_suffix_is Decides-eqb x.now a.tail.now None c.in_err-strip_suffix.ensures.cases (decimal n) (sym (behind a.head.now (decimal n ++ a.tail.now) x.now (f ∙ e))))
 
 pub returns : goal.returns
-returns c = let a = c.args in
-    let f = c.same.ensures.0 (c.if-not-same.false) in
-    let g = c.same-2.ensures.0 (c.if-not-same-2.false) in
-    spells_part a.head.now a.tail.now a.s.now a.low a.high c.decimal_of.result (omega arith) f (g ∙ part_back a.s.now (length a.s.now - length a.tail.now)) c.decimal_of.ensures
+returns c =
+    let a = c.args in
+    let x = c.in_ok-strip_prefix.field-0 in
+    let y = c.in_ok-strip_suffix.field-0 in
+    let e = strip_prefix_is Decides-eqb a.s.now a.head.now (Some x) c.in_ok-strip_prefix.ensures.cases in
+    let f = strip_suffix_is Decides-eqb x.now a.tail.now (Some y) c.in_ok-strip_suffix.ensures.cases in
+    rw (e, f) (spells_between a.head.now a.tail.now y.now a.low a.high c.decimal_of.result c.decimal_of.ensures)

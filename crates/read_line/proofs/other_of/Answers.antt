@@ -1,3 +1,4 @@
+-- Each form that is met is its line, by KindLaws; where none is met, no line is.
 use Rattle.read_line.specs.KindLaws.{load_or, load_close, store_call, line_block, line_var, line_end_var, line_header, line_end, differs, no_other}
 use Rattle.read_line.proofs.other_of.Goals as goal
 
@@ -7,11 +8,11 @@ returns-then-same c = load_or (c.same.ensures.0 c.if-same.true)
 pub returns-then-same-2 : goal.returns-then-same-2
 returns-then-same-2 c = load_close (c.same-2.ensures.0 c.if-same-2.true)
 
-pub returns-in-Is : goal.returns-in-Is
-returns-in-Is c = store_call c.in-Is.ensures
+pub returns-in-Some : goal.returns-in-Some
+returns-in-Some c = store_call c.in-Some.ensures
 
-pub returns-in-Is-numbered : goal.returns-in-Is-numbered
-returns-in-Is-numbered c = line_block c.in-Is-numbered.ensures
+pub returns-in-Some-numbered : goal.returns-in-Some-numbered
+returns-in-Some-numbered c = line_block c.in-Some-numbered.ensures
 
 pub returns-then-same-3 : goal.returns-then-same-3
 returns-then-same-3 c = line_var (c.same-3.ensures.0 c.if-same-3.true)

@@ -1,3 +1,4 @@
+-- One bit more, below those before.
 use mathlib.Core.Path.{◌≡◌, sym, ◌∙◌}
 use mathlib.Core.Bool.{true, false}
 use Prim.Native.Nat.{◌+◌, ◌-◌}
@@ -14,14 +15,14 @@ returns-then-width-gt8 c h = absurd (omega arith)
 
 pub loop-i-init : goal.loop-i-init
 unfolding code_at word_of table
-loop-i-init c = let n = c.args.width in let z : n - n ≡ 0 = omega arith in (omega arith, omega arith, omega arith, rw z)
+loop-i-init c = let n = c.args.width in let z : n - n ≡ 0 = omega arith in (omega arith, omega arith, omega arith, rw (c.from-i.ensures, z))
 
 pub loop-i-preserved-then-flip_flop : goal.loop-i-preserved-then-flip_flop
 unfolding flip_flop_on
 loop-i-preserved-then-flip_flop c =
     let a = c.args in
     let b = c.loop-i in
-    let e = code_more a.flip_flops.now a.first b.i a.width b.code (omega arith) b.invariant.0 b.invariant.3 true (sym c.flip_flop.ensures ∙ c.if-flip_flop.true) in
+    let e = code_more a.flip_flops.now a.first b.i a.width b.code (omega arith) b.invariant.0 b.invariant.3 true (rw c.from.ensures at (sym c.flip_flop.ensures ∙ c.if-flip_flop.true)) in
     (omega arith, b.invariant.1, omega (arith, e, code_small a.flip_flops.now (a.first + (b.i - 1)) (a.width - (b.i - 1)) (omega arith)), omega (arith, e))
 
 pub loop-i-preserved : goal.loop-i-preserved
@@ -29,7 +30,7 @@ unfolding flip_flop_on
 loop-i-preserved c =
     let a = c.args in
     let b = c.loop-i in
-    let e = code_more a.flip_flops.now a.first b.i a.width b.code (omega arith) b.invariant.0 b.invariant.3 false (sym c.flip_flop.ensures ∙ c.if-flip_flop.false) in
+    let e = code_more a.flip_flops.now a.first b.i a.width b.code (omega arith) b.invariant.0 b.invariant.3 false (rw c.from.ensures at (sym c.flip_flop.ensures ∙ c.if-flip_flop.false)) in
     (omega arith, b.invariant.1, omega (arith, e, code_small a.flip_flops.now (a.first + (b.i - 1)) (a.width - (b.i - 1)) (omega arith)), omega (arith, e))
 
 pub returns : goal.returns

@@ -1,3 +1,4 @@
+-- The operator, and the rest of the line on a flip-flop whose number 16 bits hold.
 use mathlib.Core.Path.{◌≡◌}
 use Rattle.meaning.specs.declared.Operand.TheVariants.{Mx}
 use Rattle.write_bits.specs.Sent.{way_after}
@@ -10,5 +11,6 @@ pub returns : goal.returns
 unfolding way_after
 returns c h =
     let a = c.args in
+    let p = c.put_operator-p.ensures in
     let e : a.n % 65536 ≡ a.n = omega arith in
-    record { put = one_put a.spot.way a.wanted (Mx a.n) c.put_asked-p.ensures (rw e at c.put_mx-at.ensures); way = c.next.ensures }
+    record { put = one_put a.spot.way a.wanted (Mx a.n) p.0 (rw e at c.put_mx.ensures); way = p.1 }

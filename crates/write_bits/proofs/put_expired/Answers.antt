@@ -1,3 +1,4 @@
+-- The operator, and the rest of the line on a timer.
 use mathlib.Core.List.{append_assoc}
 use Rattle.format.specs.Text.{line, operand_text}
 use Rattle.meaning.specs.declared.Operand.TheVariants.{TimerQ}
@@ -9,4 +10,5 @@ pub returns : goal.returns
 unfolding way_after line operand_text
 returns c =
     let a = c.args in
-    record { put = one_put a.spot.way a.wanted (TimerQ a.n) c.put_asked-p.ensures (simp append_assoc c.put_named-at.ensures); way = c.next.ensures }
+    let p = c.put_operator-p.ensures in
+    record { put = one_put a.spot.way a.wanted (TimerQ a.n) p.0 (simp append_assoc c.put_named.ensures); way = p.1 }

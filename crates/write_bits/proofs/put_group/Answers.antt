@@ -1,12 +1,6 @@
-use native.Mathlib.Omega.{arith}
-use Rattle.write_bits.specs.GroupLaws.{group_known, group_is}
+-- Where the rules hold, a and s are states of a chart, and the layout has the group of a and the code of s.
+use Rattle.write_bits.specs.GroupLaws.{group_is}
 use Rattle.write_bits.proofs.put_group.Goals as goal
-
-pub returns-then-a-ge-STATES : goal.returns-then-a-ge-STATES
-returns-then-a-ge-STATES c c' o R h = absurd (omega (arith, group_known c' _ o R _ _ h))
-
-pub returns-then-s-ge-STATES : goal.returns-then-s-ge-STATES
-returns-then-s-ge-STATES c c' o R h = absurd (omega (arith, group_known c' _ o R _ _ h))
 
 pub returns : goal.returns
 returns c c' o R h =

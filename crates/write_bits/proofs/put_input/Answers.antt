@@ -1,3 +1,4 @@
+-- The operator, and the rest of the line on an input.
 use Rattle.meaning.specs.declared.Operand.TheVariants.{Ix}
 use Rattle.write_bits.specs.Sent.{way_after}
 use Rattle.write_bits.specs.SentLaws.{one_put}
@@ -7,4 +8,5 @@ pub returns : goal.returns
 unfolding way_after
 returns c =
     let a = c.args in
-    record { put = one_put a.spot.way a.wanted (Ix a.n) c.put_asked-p.ensures c.put_ix-at.ensures; way = c.next.ensures }
+    let p = c.put_operator-p.ensures in
+    record { put = one_put a.spot.way a.wanted (Ix a.n) p.0 c.put_ix.ensures; way = p.1 }

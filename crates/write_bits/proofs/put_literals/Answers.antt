@@ -1,3 +1,4 @@
+-- One place more is the test of its literal.
 use mir.Syntax.{w16}
 use mathlib.Core.Path.{◌≡◌, ap, ◌∙◌}
 use mir.Facts.{to_z-of_z}
@@ -9,31 +10,26 @@ use native.Mathlib.Numerals.{add-one}
 use native.Mathlib.Omega.{arith}
 use Rattle.meaning.specs.Rows.{table}
 use Rattle.meaning.specs.Written.{literal_tests}
+use Rattle.tables.specs.Given.{given}
 use Rattle.write_bits.specs.Sent.{literals_to}
 use Rattle.write_bits.specs.SentLaws.{sent_sent, sent_none, literals_snoc}
 use Rattle.write_bits.proofs.put_literals.Goals as goal
 
 pub loop-j-init : goal.loop-j-init
 unfolding literals_to flat_map table
-loop-j-init c = (omega arith, omega arith, λ c' e. sent_none _ _ (omega arith) (omega arith))
+loop-j-init c = sent_none _ _ (omega arith) (omega arith)
 
 pub loop-j-preserved : goal.loop-j-preserved
 loop-j-preserved c =
-    let b = c.loop-j in (
-      omega arith,
-      omega arith,
-      λ c' e.
-          let v = c.literal-v in
-          let f = to_z-of_z {w = w16} (sfits_of v.type_inv) ∙ v.ensures c' e in
-          rw (add-one b.j, literals_snoc c' c.args.i b.j)
-          (sent_sent (b.invariant.2 c' e) (rw (c.wanted.ensures ∙ ap wanted f, c.kind.ensures ∙ ap (λ z. kind_of (nat_abs z)) f) at (c.put_kind-p.ensures c'))),
-    )
-
-pub shape_of-out : goal.shape_of-out
-shape_of-out c = c.loop-j.invariant.1
+    let b = c.loop-j in
+    let d = given c.args.t.now in
+    let v = c.literal-v in
+    let f = to_z-of_z {w = w16} (sfits_of v.type_inv) ∙ v.ensures in
+    rw (add-one b.j, literals_snoc d c.args.i b.j)
+    (sent_sent b.invariant (rw (c.wanted.ensures ∙ ap wanted f, c.kind.ensures ∙ ap (λ z. kind_of (nat_abs z)) f) at (c.put_kind-p.ensures d)))
 
 pub returns : goal.returns
 unfolding literal_tests literals_to
-returns c c' e =
+returns c =
     let f : c.loop-j.j ≡ 8 = omega arith in
-    rw f at (c.loop-j.invariant.2 c' e)
+    rw f at c.loop-j.invariant

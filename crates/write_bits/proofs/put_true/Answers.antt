@@ -1,3 +1,5 @@
+-- A line where nothing asks yet, otherwise none.
+use Rattle.std.proofs.Math.Logic.{inl, inr}
 use native.Mathlib.Omega.{arith}
 use Rattle.meaning.specs.declared.Operand.TheVariants.{True}
 use Rattle.meaning.specs.declared.Operator.TheVariants.{Ld}
@@ -10,7 +12,5 @@ unfolding line operator_text operand_text
 returns-in-First c = rw c.in-First.is (put_line (Ld True) c.put_part.ensures)
 
 pub returns-in-More : goal.returns-in-More
-returns-in-More c = rw c.in-More.is (put_nil _ _ (omega arith) (omega arith))
-
-pub returns-in-Store : goal.returns-in-Store
-returns-in-Store c = rw c.in-Store.is (put_nil _ _ (omega arith) (omega arith))
+returns-in-More c =
+    elim c.in-More.is [ inl e ↦ rw e (put_nil _ _ (omega arith) (omega arith)) | inr e ↦ rw e (put_nil _ _ (omega arith) (omega arith)) ]

@@ -1,10 +1,7 @@
-use Prim.Native.Nat.{◌-◌, ◌≤◌}
-use lib.ListN.{length, take}
+-- The bytes so far are put.
+use lib.ListN.{take}
 use Rattle.write_lines.specs.Put.{BytesPut}
 use Rattle.write_lines.proofs.put_bytes.Given as goal
 
-abbrev pub invariant-loop-i : goal.invariant-loop-i
-invariant-loop-i l = (l.i ≤ length l.word) × BytesPut l.initial.out l.at (take l.i l.word) l.out l.p
-
-abbrev pub decreases-loop-i : goal.decreases-loop-i
-decreases-loop-i l = length l.word - l.i
+abbrev pub invariant-loop-b : goal.invariant-loop-b
+invariant-loop-b l = BytesPut l.initial.out l.at (take l.b-index l.word) l.out l.p

@@ -1,3 +1,4 @@
+-- Its four lines, one after the other.
 use mathlib.Core.List.{[], ◌∷◌}
 use Rattle.meaning.specs.declared.Operand.TheVariants.{TimerIn, TimerPt, Timer}
 use Rattle.meaning.specs.declared.Operator.TheVariants.{St, Cal, LdTime}

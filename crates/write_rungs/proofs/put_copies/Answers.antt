@@ -1,3 +1,4 @@
+-- One flip-flop more is its rung more.
 use mathlib.Core.Path.{◌≡◌}
 use mathlib.Core.List.{flat_map}
 use Prim.Native.Nat.{◌+◌, ◌<◌}
@@ -5,7 +6,6 @@ use native.Mathlib.Numerals.{add-one}
 use native.Mathlib.Omega.{arith}
 use Rattle.meaning.specs.Rows.{table}
 use Rattle.write_bits.specs.SentLaws.{put_lines, put_nil}
-use Rattle.meaning.specs.Layout.{flip_flop_count}
 use Rattle.meaning.specs.Programs.{rung_of}
 use Rattle.meaning.specs.Written.{copy_rungs}
 use Rattle.write_rungs.specs.Sections.{copies_to}
@@ -14,24 +14,12 @@ use Rattle.write_rungs.proofs.put_copies.Goals as goal
 
 pub loop-b-init : goal.loop-b-init
 unfolding copies_to flat_map table
-loop-b-init c = (omega arith, omega arith, λ c' R e. put_nil _ _ (omega arith) (omega arith))
+loop-b-init c c' R e = put_nil _ _ (omega arith) (omega arith)
 
 pub loop-b-preserved : goal.loop-b-preserved
-loop-b-preserved c =
+loop-b-preserved c c' R e =
     let l = c.loop-b in
-    let b = l.b in (
-      omega arith,
-      omega arith,
-      λ c' R e.
-          let h : c.args.total + b < 65536 = omega (arith, R.flip_flop.few) in
-          let z : 0 + b ≡ b = omega arith in
-          rw (add-one b, copies_snoc c' b, z) (put_lines (copies_to c' b) (flat_map rung_of (copy_rungs c' b)) (l.invariant.2 c' R e) (c.put_copy-p.ensures c' e h)),
-    )
-
-pub shape_of-out : goal.shape_of-out
-shape_of-out c = c.loop-b.invariant.1
-
-pub returns : goal.returns
-returns c c' R e =
-    let z : c.loop-b.b ≡ flip_flop_count c' = omega arith in
-    rw z at (c.loop-b.invariant.2 c' R e)
+    let b = l.b in
+    let h : c.args.total + b < 65536 = omega (arith, R.flip_flop.few) in
+    let z : 0 + b ≡ b = omega arith in
+    rw (add-one b, copies_snoc c' b, z) (put_lines (copies_to c' b) (flat_map rung_of (copy_rungs c' b)) (l.invariant c' R e) (c.put_copy-p.ensures c' e h))

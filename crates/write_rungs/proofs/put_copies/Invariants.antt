@@ -1,6 +1,5 @@
+-- The rungs of the first b flip-flops are written.
 use mathlib.Core.Path.{◌≡◌}
-use Prim.Native.Nat.{◌-◌, ◌≤◌}
-use lib.ListN.{length}
 use Rattle.write_lines.specs.Fit.{PutIfRoom}
 use Rattle.write_bits.specs.Sent.{lines}
 use Rattle.meaning.specs.Tables.{Tables}
@@ -10,8 +9,4 @@ use Rattle.write_rungs.specs.Sections.{copies_to}
 use Rattle.write_rungs.proofs.put_copies.Given as goal
 
 abbrev pub invariant-loop-b : goal.invariant-loop-b
-invariant-loop-b l =
-    (l.b ≤ l.total) × (length l.out ≡ length l.initial.out) × ((c : Tables) → Rules c → l.total ≡ flip_flop_count c → PutIfRoom l.initial.out l.at (lines (copies_to c l.b)) l.out l.p)
-
-abbrev pub decreases-loop-b : goal.decreases-loop-b
-decreases-loop-b l = l.total - l.b
+invariant-loop-b l = (c : Tables) → Rules c → l.total ≡ flip_flop_count c → PutIfRoom l.initial.out l.at (lines (copies_to c l.b)) l.out l.p

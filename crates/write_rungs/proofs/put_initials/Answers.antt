@@ -1,45 +1,41 @@
+-- Each level is the group of its initial sub-state; a leaf has none, and no state is below the last level.
 use mathlib.Core.Path.{◌≡◌, sym, ◌∙◌}
 use Prim.Native.Nat.{suc, ◌+◌, ◌-◌}
 use native.Mathlib.Omega.{arith}
 use Rattle.meaning.specs.Tables.{initial}
 use Rattle.meaning.specs.Written.{group_bits, bit_store, initial_stores}
-use Rattle.write_bits.specs.SentLaws.{put_lines, put_nil}
+use Rattle.tables.specs.Given.{given}
+use Rattle.write_operators.specs.declared.Way.TheVariants.{Store}
+use Rattle.write_bits.specs.SentLaws.{put_lines, put_nil, after_store}
 use Rattle.write_rungs.specs.RungLaws.{group_put, at_leaf, at_super}
 use Rattle.write_rungs.proofs.put_initials.Goals as goal
 
-pub loop-k-init : goal.loop-k-init
-loop-k-init c = (omega arith, omega arith, λ c' d h. (h, λ m r x. rw (c.depth-k.ensures c' d.states) at x))
-
-pub shape_of-out-then-sub-eq0 : goal.shape_of-out-then-sub-eq0
-shape_of-out-then-sub-eq0 c = c.loop-k.invariant.0
-
-pub returns-then-sub-eq0 : goal.returns-then-sub-eq0
-returns-then-sub-eq0 c c' d h =
-    let b = c.loop-k in
-    let i = b.invariant.2 c' d h in
-    i.1 _ _ (rw (at_leaf d (8 - b.k) b.s i.0 (sym (c.initial-sub.ensures c' d.states) ∙ c.if-sub-eq0.true)) (put_nil _ _ (omega arith) (omega arith)))
-
-pub loop-k-preserved : goal.loop-k-preserved
-loop-k-preserved c =
-    let b = c.loop-k in (
+pub loop-level-preserved : goal.loop-level-preserved
+loop-level-preserved c =
+    let b = c.loop-level in
+    let g = given c.args.t.now in (
       omega arith,
-      omega arith,
-      λ c' d h.
-          let i = b.invariant.2 c' d h in
-          let f = c.initial-sub.ensures c' d.states in
-          let k = 8 - (b.k + 1) in
-          let e : 8 - b.k ≡ suc k = omega arith in
+      λ d h.
+          let i = b.invariant.1 d h in
+          let store : b.spot ≡ record { at = b.spot.at; way = Store } = λ j. record { at = b.spot.at; way = i.1 j } in
+          let f = c.initial-sub.ensures in
+          let k = 8 - (b._level + 1) in
+          let e : 8 - b._level ≡ suc k = omega arith in
           let v = at_super d k b.s i.0 (λ z. c.if-sub-eq0.false (f ∙ z)) in
-          let g = group_put d b.s (initial c' b.s) (rw f at (c.put_group-q.ensures c' d.laid d.rules (rw f v.0))) in
-          (rw f v.0.known, λ m r x. i.1 m r (rw (e, v.1) (put_lines (group_bits c' (bit_store c') b.s (initial c' b.s)) (initial_stores c' k (initial c' b.s)) g (rw f at x)))),
+          let p = rw (store, f) at (c.put_group-spot.ensures g d.laid d.rules (rw f v.0)) in
+          let x = group_put d b.s (initial g b.s) p in
+          (rw f v.0.known, p.way ∙ after_store _, λ m r y. i.2 m r (rw (e, v.1) (put_lines (group_bits g (bit_store g) b.s (initial g b.s)) (initial_stores g k (initial g b.s)) x (rw f at y)))),
     )
 
-pub shape_of-out : goal.shape_of-out
-shape_of-out c = c.loop-k.invariant.0
+pub returns-then-sub-eq0 : goal.returns-then-sub-eq0
+returns-then-sub-eq0 c d h =
+    let b = c.loop-level in
+    let i = b.invariant.1 d h in
+    i.2 _ _ (rw (at_leaf d (8 - b._level) b.s i.0 (sym c.initial-sub.ensures ∙ c.if-sub-eq0.true)) (put_nil _ _ (omega arith) b.invariant.0))
 
-pub returns : goal.returns
+pub returns-after-loop-level : goal.returns-after-loop-level
 unfolding initial_stores
-returns c c' d h =
-    let b = c.loop-k in
-    let e : 8 - b.k ≡ 0 = omega arith in
-    (b.invariant.2 c' d h).1 _ _ (rw e (put_nil _ _ (omega arith) (omega arith)))
+returns-after-loop-level c d h =
+    let b = c.loop-level in
+    let e : 8 - b._level ≡ 0 = omega arith in
+    (b.invariant.1 d h).2 _ _ (rw e (put_nil _ _ (omega arith) b.invariant.0))

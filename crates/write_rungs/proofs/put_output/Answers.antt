@@ -1,4 +1,5 @@
-use mathlib.Core.Path.{◌≡◌}
+-- The body over the pairs of the output, and its line.
+use mathlib.Core.Path.{◌≡◌, refl}
 use mathlib.Core.List.{[], ◌∷◌}
 use Prim.Native.Nat.{◌%◌}
 use native.Mathlib.Omega.{arith}
@@ -6,18 +7,19 @@ use Rattle.meaning.specs.Programs.{body_of}
 use Rattle.meaning.specs.Written.{pairs_body}
 use Rattle.meaning.specs.declared.Operand.TheVariants.{Qx}
 use Rattle.meaning.specs.declared.Operator.TheVariants.{St}
+use Rattle.tables.specs.Given.{given}
 use Rattle.write_bits.specs.SentLaws.{put_lines, put_line}
-use Rattle.write_rungs.specs.SectionLaws.{output_pairs_lem, output_lines}
+use Rattle.write_rungs.specs.SectionLaws.{output_lines}
 use Rattle.format.specs.Text.{line, operator_text}
 use Rattle.write_lines.specs.Fit.{fit_fit}
 use Rattle.write_rungs.proofs.put_output.Goals as goal
 
 pub returns : goal.returns
 unfolding line operator_text
-returns c c' d e F h =
+returns c d F h =
     let a = c.args in
-    let ps = a.pairs.now in
-    let x = c.put_pairs-body.ensures c' d c'.outputs (output_pairs_lem c' ps d.rules e) F in
+    let g = given a.t.now in
+    let x = c.put_pairs-body.ensures d g.outputs d.rules.output_pairs F in
     let m : a.o % 65536 ≡ a.o = omega arith in
-    let y = fit_fit c.put_part-p.ensures (rw m at c.put_qx-at.ensures) in
-    (x.0, rw (← output_lines c' ps a.o e) (put_lines (body_of (pairs_body c' ps a.o)) (St (Qx a.o) ∷ []) x.1 (put_line (St (Qx a.o)) y)))
+    let y = fit_fit c.put_part-p.ensures (rw m at c.put_qx.ensures) in
+    (x.0, rw (← output_lines g g.output_pairs a.o refl) (put_lines (body_of (pairs_body g g.output_pairs a.o)) (St (Qx a.o) ∷ []) x.1 (put_line (St (Qx a.o)) y)))

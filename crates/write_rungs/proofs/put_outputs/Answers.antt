@@ -1,44 +1,52 @@
-use mathlib.Core.Path.{◌≡◌}
-use mathlib.Core.List.{flat_map}
-use Prim.Native.Nat.{◌+◌, ◌<◌}
-use native.Mathlib.Numerals.{add-one}
+-- One output more is its rung more; no output is ahead of the last one.
+use mathlib.Core.Path.{◌≡◌, ap, ◌∙◌}
+use mathlib.Core.List.{List, ◌++◌, flat_map}
+use Prim.Native.Nat.{ℕ, suc, ◌+◌, ◌-◌}
 use native.Mathlib.Omega.{arith}
 use Rattle.meaning.specs.Rows.{table}
+use Rattle.meaning.specs.Tables.{Tables}
+use Rattle.write_lines.specs.Fit.{PutIfRoom}
+use Rattle.write_bits.specs.Sent.{lines}
 use Rattle.write_bits.specs.SentLaws.{put_lines, put_nil}
 use Rattle.meaning.specs.Programs.{rung_of}
 use Rattle.meaning.specs.Written.{output_rungs}
+use Rattle.tables.specs.Given.{given}
 use Rattle.write_bodies.specs.PairLaws.{reaches_start}
 use Rattle.write_rungs.specs.Sections.{outputs_to}
-use Rattle.write_rungs.specs.SectionLaws.{output_pairs_lem, outputs_snoc}
+use Rattle.write_rungs.specs.SectionLaws.{outputs_snoc}
 use Rattle.write_rungs.proofs.put_outputs.Goals as goal
+
+one_more : (c : Tables) (p o : ℕ) → 1 + p ≡ o → {l m n : List ℕ} {i j k : ℕ}
+    → PutIfRoom l i (lines (outputs_to c p)) m j → PutIfRoom m j (lines (flat_map rung_of (output_rungs c o))) n k → PutIfRoom l i (lines (outputs_to c o)) n k
+one_more c p o z x y =
+    let e : o ≡ suc p = omega arith in
+    let f : outputs_to c o ≡ outputs_to c p ++ flat_map rung_of (output_rungs c o) =
+    ap (outputs_to c) e ∙ outputs_snoc c p ∙ ap (λ q. outputs_to c p ++ flat_map rung_of (output_rungs c q)) z in
+    rw f (put_lines (outputs_to c p) (flat_map rung_of (output_rungs c o)) x y)
 
 pub loop-o-init : goal.loop-o-init
 unfolding outputs_to flat_map table
-loop-o-init c =
-    let ps = c.args.pairs.now in (
-      omega arith,
-      omega arith,
-      λ c' d e f. (reaches_start c' c'.outputs ps (output_pairs_lem c' ps d.rules e), put_nil _ _ (omega arith) (omega arith)),
-    )
+loop-o-init c = (
+  omega arith,
+  λ d. (let g = given c.args.t.now in (reaches_start g g.outputs g.output_pairs d.rules.output_pairs, put_nil _ _ (omega arith) (omega arith))),
+)
 
 pub loop-o-preserved : goal.loop-o-preserved
-loop-o-preserved c =
-    let b = c.loop-o in
-    let o = b.o in (
-      omega arith,
-      omega arith,
-      λ c' d e f.
-          let i = b.invariant.2 c' d e f in
-          let h : o + 1 < 65536 = omega (arith, d.rules.size.few_outputs, f) in
-          let x = c.put_output-cursor.ensures c' d e (rw (add-one o) i.0) h in
-          let z : 1 + o ≡ o + 1 = omega arith in
-          (rw (add-one (o + 1)) at x.0, rw (add-one o, outputs_snoc c' o, z) (put_lines (outputs_to c' o) (flat_map rung_of (output_rungs c' (o + 1))) i.1 x.1)),
-    )
+loop-o-preserved c = (
+  omega arith,
+  λ d.
+      let g = given c.args.t.now in
+      let o = c.loop-o.o in
+      let i = c.loop-o.invariant.1 d in
+      let x = c.put_output-cursor.ensures d i.0 (omega (arith, d.rules.size.few_outputs)) in
+      let n : o + 1 - 1 ≡ o = omega arith in
+      (x.0, rw n (one_more g (o - 1) o (omega arith) i.1 x.1)),
+)
 
-pub shape_of-out : goal.shape_of-out
-shape_of-out c = c.loop-o.invariant.1
-
-pub returns : goal.returns
-returns c c' d e f =
-    let z : c.loop-o.o ≡ c.args.outputs = omega arith in
-    rw z at (c.loop-o.invariant.2 c' d e f).1
+pub returns-2 : goal.returns-2
+returns-2 c d =
+    let o = c.loop-o.o in
+    let i = c.loop-o.invariant.1 d in
+    let x = c.put_output-cursor.ensures d i.0 (omega (arith, d.rules.size.few_outputs)) in
+    let z : o ≡ c.args.t.now.chart.outputs = omega arith in
+    rw z at (one_more (given c.args.t.now) (o - 1) o (omega arith) i.1 x.1)

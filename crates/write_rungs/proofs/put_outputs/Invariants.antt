@@ -1,17 +1,14 @@
-use mathlib.Core.Path.{◌≡◌}
-use Prim.Native.Nat.{suc, ◌-◌, ◌≤◌}
-use lib.ListN.{length}
+-- The rungs of the outputs before o are written, and the pairs of o start at the cursor.
+use Prim.Native.Nat.{◌+◌, ◌-◌, ◌≤◌}
+use Rattle.tables.specs.Given.{given}
 use Rattle.write_lines.specs.Fit.{PutIfRoom}
-use Rattle.write_bits.specs.Sent.{lines, laid, LaidTables}
-use Rattle.meaning.specs.Tables.{Tables}
+use Rattle.write_bits.specs.Sent.{lines, LaidTables}
 use Rattle.write_bodies.specs.Pairs.{Reaches}
 use Rattle.write_rungs.specs.Sections.{outputs_to}
 use Rattle.write_rungs.proofs.put_outputs.Given as goal
 
 abbrev pub invariant-loop-o : goal.invariant-loop-o
 invariant-loop-o l =
-    (l.o ≤ l.outputs) × (length l.out ≡ length l.initial.out)
-    × ((c : Tables) → LaidTables c l.states (laid l.first l.width l.code l.total) → c.output_pairs ≡ l.pairs → c.outputs ≡ l.outputs → Reaches l.pairs (suc l.o) l.cursor.row × PutIfRoom l.initial.out l.at (lines (outputs_to c l.o)) l.out l.cursor.at)
-
-abbrev pub decreases-loop-o : goal.decreases-loop-o
-decreases-loop-o l = l.outputs - l.o
+    (l.o ≤ l.t.chart.outputs + 1)
+    × (LaidTables (given l.t) l.layout
+    → Reaches (given l.t).output_pairs l.o l.cursor.row × PutIfRoom l.initial.out l.at (lines (outputs_to (given l.t) (l.o - 1))) l.out l.cursor.at)

@@ -1,8 +1,8 @@
+-- The line by its parts, with the LF in the last.
 use mathlib.Core.List.{append_assoc}
 use Rattle.format.specs.Text.{line, block_line}
-use Rattle.write_lines.specs.Fit.{fit_fit, put_fit}
 use Rattle.write_spelling.proofs.put_block.Goals as goal
 
 pub returns : goal.returns
 unfolding block_line line
-returns c = simp append_assoc (fit_fit c.put_part-p.ensures (fit_fit (put_fit c.put_decimal-q.ensures) c.put_part.ensures))
+returns c = simp append_assoc c.put_between.ensures

@@ -1,3 +1,4 @@
+-- One line more.
 use Prim.Native.Nat.{ℕ, ◌+◌}
 use mathlib.Core.Path.{◌≡◌}
 use mathlib.Core.List.{flat_map}
@@ -11,18 +12,10 @@ use Rattle.write_spelling.proofs.put_blocks.Goals as goal
 
 pub loop-n-init : goal.loop-n-init
 unfolding flat_map table
-loop-n-init c = (omega arith, fit_none _ _ (omega arith) (omega arith))
+loop-n-init c = fit_none _ _ (omega arith) (omega arith)
 
 pub loop-n-preserved : goal.loop-n-preserved
 loop-n-preserved c =
     let n : ℕ = c.loop-n.n in
     let e : 1 + n ≡ n + 1 = omega arith in
-    (omega arith, rw (add-one, rows_snoc block_line 1 n, e) (fit_fit c.loop-n.invariant.1 c.put_block-p.ensures))
-
-pub shape_of-out : goal.shape_of-out
-shape_of-out c = c.loop-n.invariant.1.long
-
-pub returns : goal.returns
-returns c =
-    let e : c.loop-n.n ≡ c.args.d = omega arith in
-    rw e at c.loop-n.invariant.1
+    rw (add-one, rows_snoc block_line 1 n, e) (fit_fit c.loop-n.invariant c.put_block-p.ensures)

@@ -1,3 +1,4 @@
+-- No declarations where there is no block, else the four parts in a row.
 use mathlib.Core.Path.{◌≡◌}
 use mathlib.Core.Logic.{◌≢◌}
 use native.Mathlib.Omega.{arith}

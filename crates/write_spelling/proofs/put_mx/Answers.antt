@@ -1,3 +1,4 @@
+-- The name's two letters and its number, in a row.
 use Rattle.format.specs.Text.{line, operand_text}
 use Rattle.write_lines.specs.Fit.{fit_fit}
 use Rattle.write_spelling.proofs.put_mx.Goals as goal

@@ -1,3 +1,4 @@
+-- The two parts in a row.
 use Rattle.write_lines.specs.Fit.{fit_fit}
 use Rattle.write_spelling.proofs.put_named.Goals as goal
 

@@ -1,18 +1,11 @@
-use mathlib.Core.Path.{refl, sym, ◌∙◌}
+-- What the check refuses is refused; on what it accepts the rules hold.
+use mathlib.Core.Path.{sym, ◌∙◌}
+use Rattle.std.proofs.lemmas.Result.{err_from_is_err_and}
 use Rattle.meaning.proofs.Laws.Verdict.{accepted_exactly}
 use Rattle.write_text.specs.Texts.{refused_tables, accepted_tables}
 use Rattle.write_text.proofs.write.Goals as goal
 
-pub returns-in-Refused : goal.returns-in-Refused
-returns-in-Refused c = refused_tables _ _ _ (sym c.check-v.ensures ∙ c.in-Refused.is)
-
-pub returns-in-Accepted : goal.returns-in-Accepted
-returns-in-Accepted c =
-    let e = sym c.check-v.ensures ∙ c.in-Accepted.is in
-    accepted_tables _ _ _ _ e
-    (c.write_checked.ensures _
-    (record {
-      outputs = refl;
-      lent = record { states = refl; moves = refl; presets = refl; timer_pairs = refl; output_pairs = refl };
-      rules = (accepted_exactly _).0 e;
-    }))
+pub returns : goal.returns
+returns c =
+    let e = sym c.check.ensures ∙ c.in_ok-check.was in
+    accepted_tables _ _ _ _ e (c.write_checked.ensures ((accepted_exactly _).0 e))

@@ -1,3 +1,4 @@
+-- Each range of numbers has one operand, by Laws.Operands; its line is what was put.
 use native.Mathlib.Omega.{arith}
 use mathlib.Core.List.{append_assoc}
 use Rattle.format.specs.Text.{line, operand_text}

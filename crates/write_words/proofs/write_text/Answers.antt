@@ -1,16 +1,16 @@
-use native.Mathlib.Omega.{arith}
-use lib.ListN.{length, length-take}
-use Rattle.write_lines.specs.WroteLaws.{refuses, writes}
+-- Measured over no bytes, then written.
+use mathlib.Core.List.{[]}
 use borrow.Author.Rules.{rules}
+use Rattle.meaning.proofs.Laws.Rows.{no_length}
+use Rattle.write_lines.specs.WroteLaws.{refuses, writes}
 use Rattle.write_words.proofs.write_text.Goals as goal
 
-pub slice_bounds-put_text-end-2 : goal.slice_bounds-put_text-end-2
-slice_bounds-put_text-end-2 c =
-    let l = c.args.out.now in
-    omega (arith, length-take 0 l, length-take (length l) l)
-
-pub returns-then-room-needed : goal.returns-then-room-needed
-returns-then-room-needed c = refuses _ c.args.out.now _ _ c.put_text-needed.ensures c.if-room-needed.true
+pub returns-then-out-needed : goal.returns-then-out-needed
+returns-then-out-needed c =
+    let m = c.put_text-needed.ensures in
+    refuses _ c.args.out.now [] _ (rw (no_length _ m.long) at m) c.if-out-needed.true
 
 pub returns : goal.returns
-returns c = writes _ c.args.out.now _ _ c.put_text-needed.ensures (search rules) c.if-room-needed.false c.put_text.ensures
+returns c =
+    let m = c.put_text-needed.ensures in
+    writes _ c.args.out.now [] _ (rw (no_length _ m.long) at m) (search rules) c.if-out-needed.false c.put_text.ensures
