@@ -14,6 +14,7 @@ use meaning::{Operand, Operator};
 // puts the decoder into the loop of the scan and goes from an arm straight to the code that runs its operator. Split in
 // two, it makes the decoded instruction first and then jumps again on its tags: 20 indirect jumps in the scan, not 1.
 // docs/PERFORMANCE.md has both figures.
+#[inline(always)]
 #[tactic(auto, using(crate::specs::Numbers::by_operator), unfolding(format::specs::Decode::unpacked))]
 fn unpack(k: u32, m: u32) -> Option<Operator>
     ensures { result ≡ unpacked k m }
@@ -80,7 +81,8 @@ fn unpack(k: u32, m: u32) -> Option<Operator>
     }
 }
 
-// The instruction of a word, or none.
+// The instruction of a word, or none. It belongs into the loop of its caller, as `unpack` says.
+#[inline(always)]
 #[tactic(auto, unfolding(format::specs::Decode::decoded))]
 pub fn decode(w: u32) -> Option<Operator>
     ensures { result ≡ decoded w }
