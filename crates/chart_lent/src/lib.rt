@@ -2,10 +2,10 @@
 #![tactic(auto)]
 
 ghost use Rattle.std.specs.Prelude.{◌≤◌, ◌/◌};
-ghost use Rattle.meaning.specs.Tables.{state_count, move_count};
+ghost use Rattle.meaning.specs.Tables.{Tables, state_count, move_count};
 ghost use Rattle.meaning.specs.Rules.{Rules};
 ghost use Rattle.check_needs.specs.Words.{need_words};
-ghost use Rattle.tables.specs.Given.{given};
+ghost use Rattle.chart_scan.specs.Held.{TablesGiven};
 ghost use Rattle.chart_lent.specs.Slice.{LentRun};
 
 use check_needs::Needs;
@@ -29,9 +29,10 @@ fn run_in<const STATES: usize, const NEEDS: usize>(
     outputs: &mut [u64],
 ) -> Result<usize, Refusal>
     requires { (STATES ≤ 256) × (NEEDS ≤ 2048) }
-    ensures { Rules (given t.now) → state_count (given t.now) ≤ STATES
-        → move_count (given t.now) ≤ NEEDS / need_words
-        → LentRun (given t.now) inputs.now state.old leaves.old outputs.old result state.new leaves.new outputs.new }
+    ensures { (c : Tables) → TablesGiven c t.now.chart.step t.now.chart.outputs t.now.states.now
+        t.now.moves.now t.now.presets.now t.now.timer_pairs.now t.now.output_pairs.now
+        → Rules c → state_count c ≤ STATES → move_count c ≤ NEEDS / need_words
+        → LentRun c inputs.now state.old leaves.old outputs.old result state.new leaves.new outputs.new }
 {
     let codes = layout::codes_of(t);
     let mut wants = [0u32; STATES];
@@ -77,8 +78,9 @@ pub fn run_checked(
     leaves: &mut [u16],
     outputs: &mut [u64],
 ) -> Result<usize, Refusal>
-    ensures { Rules (given t.now)
-        → LentRun (given t.now) inputs.now state.old leaves.old outputs.old result state.new leaves.new outputs.new }
+    ensures { (c : Tables) → TablesGiven c t.now.chart.step t.now.chart.outputs t.now.states.now
+        t.now.moves.now t.now.presets.now t.now.timer_pairs.now t.now.output_pairs.now
+        → Rules c → LentRun c inputs.now state.old leaves.old outputs.old result state.new leaves.new outputs.new }
 {
     if t.state_count() <= SMALL && t.move_count() <= SMALL {
         run_in::<{ SMALL }, { SMALL_NEEDS }>(t, state, inputs, leaves, outputs)

@@ -2,10 +2,9 @@
 #![tactic(auto)]
 
 ghost use Rattle.std.specs.Prelude.{◌≡◌, cond, ◌<◌, ◌≤◌, length, set, take, ltb};
-ghost use Rattle.meaning.specs.Tables.{state_count, move_count, initial};
+ghost use Rattle.meaning.specs.Tables.{Tables, state_count, move_count, initial};
 ghost use Rattle.meaning.specs.Rules.{Rules};
 ghost use Rattle.meaning.specs.Machine.{memory_after_move};
-ghost use Rattle.tables.specs.Given.{given};
 ghost use Rattle.chart_moving.specs.Moves.{set_above, set_below};
 
 use tables::{Chart, ChartTables};
@@ -21,8 +20,8 @@ pub fn remember(memory: &mut [u16], a: usize, s: usize)
 
 // "A move sets every super-state above its target to lead to the target."
 fn set_above(t: &ChartTables<'_>, target: usize, memory: &mut [u16])
-    ensures { Rules (given t.now) → target < state_count (given t.now)
-        → memory.new ≡ set_above (given t.now) 8 target memory.old }
+    ensures { (c : Tables) → c.states ≡ t.now.states.now → Rules c → target < state_count c
+        → memory.new ≡ set_above c 8 target memory.old }
 {
     let mut s = target;
     for k in 0..Chart::DEPTH {
@@ -37,8 +36,8 @@ fn set_above(t: &ChartTables<'_>, target: usize, memory: &mut [u16])
 
 // "Mark 0: the target, if a super-state, and those reached below it by initial sub-states are set to initial."
 fn set_below(t: &ChartTables<'_>, target: usize, memory: &mut [u16])
-    ensures { Rules (given t.now) → target < state_count (given t.now)
-        → memory.new ≡ set_below (initial (given t.now)) 9 target memory.old }
+    ensures { (c : Tables) → c.states ≡ t.now.states.now → Rules c → target < state_count c
+        → memory.new ≡ set_below (initial c) 9 target memory.old }
 {
     let mut s = target;
     for k in 0..Chart::DEPTH + 1 {
@@ -53,10 +52,11 @@ fn set_below(t: &ChartTables<'_>, target: usize, memory: &mut [u16])
 
 // "Mark 1: nothing at or below the target is set"; "with none, the state stays".
 pub fn enter(t: &ChartTables<'_>, i: usize, memory: &mut [u16])
-    ensures { Rules (given t.now) → state_count (given t.now) ≤ length memory.old
-        → take (state_count (given t.now)) memory.new ≡ cond (ltb i (move_count (given t.now)))
-        (memory_after_move (given t.now) i (take (state_count (given t.now)) memory.old))
-        (take (state_count (given t.now)) memory.old) }
+    ensures { (c : Tables) → c.states ≡ t.now.states.now → c.moves ≡ t.now.moves.now → Rules c
+        → state_count c ≤ length memory.old
+        → take (state_count c) memory.new ≡ cond (ltb i (move_count c))
+        (memory_after_move c i (take (state_count c) memory.old))
+        (take (state_count c) memory.old) }
 {
     if t.move_count() <= i {
         return;

@@ -12,19 +12,25 @@ ghost use Rattle.check_needs.specs.WordsLaws.{Small};
 ghost use Rattle.tables.specs.Given.{given};
 ghost use Rattle.chart_scan.specs.Making.{MadeFor};
 ghost use Rattle.check_pairing.specs.Words.{PairedWords};
-ghost use Rattle.chart_scan.specs.Held.{Empty, StateScanned, MemorySound, held};
+ghost use Rattle.chart_scan.specs.Held.{TablesGiven, Empty, StateScanned, MemorySound, held};
 
+use check_literals::LiteralCounts;
 use check_needs::ThingWords;
 use tables::{Chart, ChartTables};
 
 // ---- once for all scans
 
-// What the moves need: those of an accepted chart pass, and so the words of each are its needs.
+// What the moves need: those of an accepted chart pass too with as many inputs and timers as there may be, and so the
+// words of each are its needs.
 pub fn make_needs(t: &ChartTables<'_>, needs: &mut [u64])
-    ensures { Rules (given t.now) → move_count (given t.now) ≤ length needs.old / need_words
-        → HoldTo (given t.now) (move_count (given t.now)) needs.new }
+    ensures { (c : Tables) → c.moves ≡ t.now.moves.now → Rules c
+        → move_count c ≤ length needs.old / need_words → HoldTo c (move_count c) needs.new }
 {
-    check_literals::fill(t, needs);
+    let most = LiteralCounts {
+        inputs: Chart::INPUTS,
+        timers: Chart::TIMERS,
+    };
+    check_literals::fill(t, most, needs);
 }
 
 // As many as there may be states and moves.
@@ -47,9 +53,8 @@ fn link(t: &ChartTables<'_>, i: usize, links: &mut [u16])
 // The moves by their source: at s the last from state s, and at 256 + i the one before move i from the same state. They
 // count from 1 here, and 0 is none: an Option of each would take twice the memory, which is fixed.
 pub fn make_links(t: &ChartTables<'_>, links: &mut [u16])
-    ensures { Rules (given t.now) → 768 ≤ length links.old
-        → ((s : ℕ) → get_or links.old s 0 ≡ 0)
-        → LinkedTo (given t.now) (move_count (given t.now)) links.new }
+    ensures { (c : Tables) → c.moves ≡ t.now.moves.now → Rules c → 768 ≤ length links.old
+        → ((s : ℕ) → get_or links.old s 0 ≡ 0) → LinkedTo c (move_count c) links.new }
 {
     for i in 0..t.move_count().min(Chart::MOVES) {
         link(t, i, links);
@@ -88,10 +93,10 @@ pub fn chosen(
     l: usize,
     on: ThingWords,
 ) -> Option<usize>
-    ensures { Rules (given t.now) → LinkedTo (given t.now) (move_count (given t.now)) links.now
-        → HoldTo (given t.now) (move_count (given t.now)) needs.now
-        → move_count (given t.now) ≤ length needs.now / need_words → l < 256 → Small on
-        → MoveIs (given t.now) (chosen (given t.now) (read on) l) result }
+    ensures { (c : Tables) → c.states ≡ t.now.states.now → c.moves ≡ t.now.moves.now → Rules c
+        → LinkedTo c (move_count c) links.now → HoldTo c (move_count c) needs.now
+        → move_count c ≤ length needs.now / need_words → l < 256 → Small on
+        → MoveIs c (chosen c (read on) l) result }
 {
     let mut s = l;
     for k in 0..Chart::DEPTH + 1 {
@@ -108,15 +113,13 @@ pub fn chosen(
 
 // The leaf after a move, if there is one, from the leaf l: "with none, the state stays".
 fn leaf_after(t: &ChartTables<'_>, enabled: Option<usize>, l: usize, memory: &mut [u16]) -> usize
-    ensures { Rules (given t.now) → state_count (given t.now) ≤ length memory.old
-        → l ≡ active_leaf (given t.now) (take (state_count (given t.now)) memory.old)
-        → (take (state_count (given t.now)) memory.new
-        ≡ cond (ltb (move_of (given t.now) enabled) (move_count (given t.now)))
-        (memory_after_move (given t.now) (move_of (given t.now) enabled)
-        (take (state_count (given t.now)) memory.old))
-        (take (state_count (given t.now)) memory.old))
-        × (MemorySound (given t.now) (take (state_count (given t.now)) memory.new)
-        → result ≡ active_leaf (given t.now) (take (state_count (given t.now)) memory.new)) }
+    ensures { (c : Tables) → c.states ≡ t.now.states.now → c.moves ≡ t.now.moves.now → Rules c
+        → state_count c ≤ length memory.old → l ≡ active_leaf c (take (state_count c) memory.old)
+        → (take (state_count c) memory.new ≡ cond (ltb (move_of c enabled) (move_count c))
+        (memory_after_move c (move_of c enabled) (take (state_count c) memory.old))
+        (take (state_count c) memory.old))
+        × (MemorySound c (take (state_count c) memory.new)
+        → result ≡ active_leaf c (take (state_count c) memory.new)) }
 {
     let Some(i) = enabled else {
         return l;
@@ -145,13 +148,13 @@ fn scan(
     l: usize,
     x: u64,
 ) -> usize
-    ensures { Rules (given t.now) → MadeFor (given t.now) made.now
-        → state_count (given t.now) ≤ length memory.old → length timers.old ≡ 32
-        → Valid (given t.now) (held (given t.now) memory.old timers.old)
-        → l ≡ active_leaf (given t.now) (take (state_count (given t.now)) memory.old)
-        → (held (given t.now) memory.new timers.new
-        ≡ state_after_step (given t.now) x (held (given t.now) memory.old timers.old))
-        × (result ≡ active_leaf (given t.now) (take (state_count (given t.now)) memory.new)) }
+    ensures { (c : Tables) → c.scan_step ≡ t.now.chart.step → c.states ≡ t.now.states.now
+        → c.moves ≡ t.now.moves.now → c.presets ≡ t.now.presets.now → Rules c → MadeFor c made.now
+        → state_count c ≤ length memory.old → length timers.old ≡ 32
+        → Valid c (held c memory.old timers.old)
+        → l ≡ active_leaf c (take (state_count c) memory.old)
+        → (held c memory.new timers.new ≡ state_after_step c x (held c memory.old timers.old))
+        × (result ≡ active_leaf c (take (state_count c) memory.new)) }
 {
     let ran = slices::at(made.runs, l, 0);
     let on = ThingWords {
@@ -175,14 +178,14 @@ fn run_made(
     leaves: &mut [u16],
     outputs: &mut [u64],
 )
-    ensures { Rules (given t.now) → MadeFor (given t.now) made.now
-        → PairedWords (given t.now) (given t.now).output_pairs shows.now
-        → state_count (given t.now) ≤ length memory.old → length timers.old ≡ 32
-        → Valid (given t.now) (held (given t.now) memory.old timers.old)
+    ensures { (c : Tables) → c.scan_step ≡ t.now.chart.step → c.states ≡ t.now.states.now
+        → c.moves ≡ t.now.moves.now → c.presets ≡ t.now.presets.now → Rules c → MadeFor c made.now
+        → PairedWords c c.output_pairs shows.now → state_count c ≤ length memory.old
+        → length timers.old ≡ 32 → Valid c (held c memory.old timers.old)
         → length leaves.old ≡ length inputs.now
         → length outputs.old ≡ length inputs.now
-        → StateScanned (given t.now) (held (given t.now) memory.old timers.old) inputs.now
-        (held (given t.now) memory.new timers.new) leaves.new outputs.new }
+        → StateScanned c (held c memory.old timers.old) inputs.now
+        (held c memory.new timers.new) leaves.new outputs.new }
 {
     let mut l = chart_paths::active_leaf(memory);
     for (i, &x) in inputs.iter().enumerate() {
@@ -205,14 +208,15 @@ pub fn run(
     leaves: &mut [u16],
     outputs: &mut [u64],
 )
-    ensures { Rules (given t.now) → PairedWords (given t.now) (given t.now).timer_pairs runs.now
-        → Empty (given t.now) shows.old needs.old
-        → state_count (given t.now) ≤ length memory.old → length timers.old ≡ 32
-        → Valid (given t.now) (held (given t.now) memory.old timers.old)
+    ensures { (c : Tables) → TablesGiven c t.now.chart.step t.now.chart.outputs t.now.states.now
+        t.now.moves.now t.now.presets.now c.timer_pairs t.now.output_pairs.now → Rules c
+        → PairedWords c c.timer_pairs runs.now → Empty c shows.old needs.old
+        → state_count c ≤ length memory.old → length timers.old ≡ 32
+        → Valid c (held c memory.old timers.old)
         → length leaves.old ≡ length inputs.now
         → length outputs.old ≡ length inputs.now
-        → StateScanned (given t.now) (held (given t.now) memory.old timers.old) inputs.now
-        (held (given t.now) memory.new timers.new) leaves.new outputs.new }
+        → StateScanned c (held c memory.old timers.old) inputs.now
+        (held c memory.new timers.new) leaves.new outputs.new }
 {
     check_pairing::paired_words(t, t.output_pairs, shows);
     make_needs(t, needs);

@@ -4,15 +4,14 @@ use Rattle.std.proofs.Common.{sym, ◌∙◌}
 use Rattle.meaning.specs.Once.{Once}
 use Rattle.meaning.proofs.Laws.Once.{is_once}
 use Rattle.meaning.specs.Rows.{every}
-use Rattle.meaning.specs.Tables.{state_count, timer_count}
+use Rattle.meaning.specs.Tables.{timer_count}
 use Rattle.meaning.specs.Machine.{remembered}
 use Rattle.tables.specs.declared.ChartTables.{ChartTables}
 use Rattle.tables.specs.Given.{given}
 use Rattle.chart_state_rules.specs.Values.{row_passes}
 
-pub codes_pass_once : (t : ChartTables) (m : List ℕ)
-    → Once (λ r. r ≡ every (λ a. ltb (remembered m a) (state_count (given t))) 0 (state_count (given t)))
-codes_pass_once t m = is_once (every (λ a. ltb (remembered m a) (state_count (given t))) 0 (state_count (given t)))
+pub codes_pass_once : (m : List ℕ) (n : ℕ) → Once (λ r. r ≡ every (λ a. ltb (remembered m a) n) 0 n)
+codes_pass_once m n = is_once (every (λ a. ltb (remembered m a) n) 0 n)
 
 pub values_pass_once : (t : ChartTables) (w : ℕ) (ts : List ℕ) → 1 ≤ (given t).scan_step → timer_count (given t) ≤ 32
     → Once (λ r. 1 ≤ (given t).scan_step → timer_count (given t) ≤ 32

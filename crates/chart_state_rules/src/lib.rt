@@ -2,7 +2,7 @@
 #![tactic(auto)]
 
 ghost use Rattle.std.specs.Prelude.{◌≡◌, ◌&&◌, ◌≤◌, eqb, ltb};
-ghost use Rattle.meaning.specs.Tables.{state_count, timer_count};
+ghost use Rattle.meaning.specs.Tables.{timer_count};
 ghost use Rattle.meaning.specs.Rows.{every};
 ghost use Rattle.meaning.specs.Machine.{remembered};
 ghost use Rattle.tables.specs.Given.{given};
@@ -13,11 +13,9 @@ use tables::{Chart, ChartTables};
 // ---- 14 STATE
 
 // "code of no sub-state": such a code leads to no state.
-pub fn codes_pass(t: &ChartTables<'_>, memory: &[u16]) -> bool
-    ensures { result ≡ every (λ a. ltb (remembered memory.now a) (state_count (given t.now))) 0
-        (state_count (given t.now)) }
+pub fn codes_pass(memory: &[u16], n: usize) -> bool
+    ensures { result ≡ every (λ a. ltb (remembered memory.now a) n) 0 n }
 {
-    let n = t.state_count();
     (0..n).all(|a| chart_paths::remembered(memory, a) < n)
 }
 

@@ -2,22 +2,20 @@
 #![tactic(auto)]
 
 ghost use Rattle.std.specs.Prelude.{◌≡◌, ◌≤◌, length, take};
-ghost use Rattle.meaning.specs.Tables.{state_count};
+ghost use Rattle.meaning.specs.Tables.{Tables, state_count};
 ghost use Rattle.meaning.specs.Rules.{Rules};
 ghost use Rattle.meaning.specs.Machine.{Valid};
 ghost use Rattle.meaning.specs.Lent.{super_states_below, lent_length, lent_of};
 ghost use Rattle.chart_scan.specs.Held.{held};
 ghost use Rattle.chart_state_read.specs.Codes.{codes_in, CodesStand};
-ghost use Rattle.tables.specs.Given.{given};
 
 use tables::{Chart, ChartTables};
 
 // The codes of what the super-states remember; it answers how many there are.
 fn write_codes(t: &ChartTables<'_>, codes: &[u16], memory: &[u16], state: &mut [u32]) -> usize
-    ensures { (result ≤ 256) × (Rules (given t.now)
-        → super_states_below (given t.now) (state_count (given t.now)) ≤ length state.old
-        → (result ≡ super_states_below (given t.now) (state_count (given t.now)))
-        × (take result state.new ≡ codes_in (given t.now) codes.now memory.now (state_count (given t.now)))) }
+    ensures { (result ≤ 256) × ((c : Tables) → c.states ≡ t.now.states.now → Rules c
+        → super_states_below c (state_count c) ≤ length state.old → (result ≡ super_states_below c (state_count c))
+        × (take result state.new ≡ codes_in c codes.now memory.now (state_count c))) }
 {
     let mut at = 0;
     for a in 0..chart_state_read::state_count(t) {
@@ -32,10 +30,10 @@ fn write_codes(t: &ChartTables<'_>, codes: &[u16], memory: &[u16], state: &mut [
 
 // The codes and values of a state, into the lent slice; it ends where the values of the chart's timers do.
 pub fn encode(t: &ChartTables<'_>, codes: &[u16], memory: &[u16], timers: &[u32], state: &mut [u32])
-    ensures { Rules (given t.now) → CodesStand (given t.now) codes.now → length timers.now ≡ 32
-        → Valid (given t.now) (held (given t.now) memory.now timers.now)
-        → length state.old ≡ lent_length (given t.now)
-        → state.new ≡ lent_of (given t.now) (held (given t.now) memory.now timers.now) }
+    ensures { (c : Tables) → c.states ≡ t.now.states.now → c.presets ≡ t.now.presets.now → Rules c
+        → CodesStand c codes.now → length timers.now ≡ 32
+        → Valid c (held c memory.now timers.now) → length state.old ≡ lent_length c
+        → state.new ≡ lent_of c (held c memory.now timers.now) }
 {
     let from = write_codes(t, codes, memory, state);
     for (i, timer) in timers.iter().enumerate() {

@@ -4,7 +4,7 @@
 ghost use Rattle.std.specs.Prelude.{◌≡◌, true, false, not, ◌&&◌, ◌||◌, ◌<◌, ◌≤◌, ◌/◌, ℕ, suc, length};
 ghost use Rattle.std.specs.Prelude.{nat_abs, is_some, IfSome};
 ghost use Rattle.std.specs.Bool.{beq};
-ghost use Rattle.meaning.specs.Tables.{move_count, literal, literal_places};
+ghost use Rattle.meaning.specs.Tables.{Tables, move_count, timer_count, literal, literal_places};
 ghost use Rattle.meaning.specs.Literals.{kind_of, input_on};
 ghost use Rattle.meaning.specs.Check.{place_passes, literal_passes};
 ghost use Rattle.tables.specs.Given.{given};
@@ -14,6 +14,25 @@ ghost use Rattle.check_literals.specs.Places.{PlacesRead, ThingMore, PlaceMore, 
 use check_needs::Needs;
 use meaning::Kind;
 use tables::ChartTables;
+
+// How many inputs and timers there are: literals are held to these counts.
+#[derive(Clone, Copy)]
+pub struct LiteralCounts {
+    pub inputs: u32,
+    pub timers: usize,
+}
+
+impl LiteralCounts {
+    // Those of a chart.
+    pub fn of(t: &ChartTables<'_>) -> LiteralCounts
+        ensures { (result.inputs ≡ t.now.chart.inputs) × (result.timers ≡ timer_count (given t.now)) }
+    {
+        LiteralCounts {
+            inputs: t.chart.inputs,
+            timers: t.timer_count(),
+        }
+    }
+}
 
 // Of the literal places of a move so far: what they need, and whether one of them is unused.
 #[derive(Clone, Copy)]
@@ -60,28 +79,28 @@ fn free(ended: bool, p: u64, q: u64, n: u16) -> bool
 }
 
 // "a literal rule broken, or beyond the counts": whether a literal of this kind may stand next.
-fn kind_passes(t: &ChartTables<'_>, a: PlacesSoFar, kind: Kind) -> bool
-    ensures { (i k : ℕ) → PlacesRead (given t.now) i k a
-        → kind ≡ kind_of (nat_abs (literal (given t.now) i k)) → result ≡ place_passes (given t.now) i k }
+fn kind_passes(counts: LiteralCounts, a: PlacesSoFar, kind: Kind) -> bool
+    ensures { (c : Tables) (i k : ℕ) → c.inputs ≡ counts.inputs → timer_count c ≡ counts.timers
+        → PlacesRead c i k a → kind ≡ kind_of (nat_abs (literal c i k)) → result ≡ place_passes c i k }
 {
     match kind {
         Kind::Unused => true,
         Kind::Input(n) => {
-            u32::from(n) <= t.chart.inputs
-                && free(a.ended, a.needs.on.inputs, a.needs.off.inputs, n)
+            u32::from(n) <= counts.inputs && free(a.ended, a.needs.on.inputs, a.needs.off.inputs, n)
         }
         Kind::Timer(n) => {
-            usize::from(n) <= t.timer_count()
+            usize::from(n) <= counts.timers
                 && free(a.ended, a.needs.on.timers, a.needs.off.timers, n)
         }
         Kind::Unknown => false,
     }
 }
 
-// What move i needs, if it passes.
-pub fn needs_of(t: &ChartTables<'_>, i: usize) -> Option<Needs>
-    ensures passes { is_some result ≡ literal_passes (given t.now) i }
-    ensures needs { IfSome result (λ a. NeedWords (given t.now) i literal_places a) }
+// What move i needs, if it passes. Of the tables the moves alone are read, here and below.
+pub fn needs_of(t: &ChartTables<'_>, counts: LiteralCounts, i: usize) -> Option<Needs>
+    ensures { (c : Tables) → c.inputs ≡ counts.inputs → timer_count c ≡ counts.timers
+        → c.moves ≡ t.now.moves.now → (is_some result ≡ literal_passes c i)
+        × IfSome result (λ a. NeedWords c i literal_places a) }
 {
     let mut a = PlacesSoFar {
         needs: Needs::NONE,
@@ -90,7 +109,7 @@ pub fn needs_of(t: &ChartTables<'_>, i: usize) -> Option<Needs>
     for k in 0..PLACES {
         let v = t.literal(i, k);
         let kind = tables::kind(v);
-        if !kind_passes(t, a, kind) {
+        if !kind_passes(counts, a, kind) {
             return None;
         }
         a = with_place(a, tables::wanted(v), kind);
@@ -99,12 +118,19 @@ pub fn needs_of(t: &ChartTables<'_>, i: usize) -> Option<Needs>
 }
 
 // Whether move i passes; what it needs is kept in its words.
-pub fn literal_passes(t: &ChartTables<'_>, i: usize, words: &mut [u64]) -> bool
+pub fn literal_passes(
+    t: &ChartTables<'_>,
+    counts: LiteralCounts,
+    i: usize,
+    words: &mut [u64],
+) -> bool
     ensures long { length words.new ≡ length words.old }
-    ensures value { (result ≡ literal_passes (given t.now) i) × (result ≡ true → i < length words.old / need_words
-        → WordsTo (given t.now) i words.old → WordsTo (given t.now) (suc i) words.new) }
+    ensures value { (c : Tables) → c.inputs ≡ counts.inputs → timer_count c ≡ counts.timers
+        → c.moves ≡ t.now.moves.now → (result ≡ literal_passes c i)
+        × (result ≡ true → i < length words.old / need_words
+        → WordsTo c i words.old → WordsTo c (suc i) words.new) }
 {
-    match needs_of(t, i) {
+    match needs_of(t, counts, i) {
         Some(needs) => {
             check_needs::put_needs(words, i, needs);
             true
@@ -114,11 +140,12 @@ pub fn literal_passes(t: &ChartTables<'_>, i: usize, words: &mut [u64]) -> bool
 }
 
 // What every move needs is kept in its words, where all moves pass.
-pub fn fill(t: &ChartTables<'_>, words: &mut [u64])
-    ensures { LiteralsPass (given t.now) → move_count (given t.now) ≤ length words.old / need_words
-        → WordsTo (given t.now) (move_count (given t.now)) words.new }
+pub fn fill(t: &ChartTables<'_>, counts: LiteralCounts, words: &mut [u64])
+    ensures { (c : Tables) → c.inputs ≡ counts.inputs → timer_count c ≡ counts.timers
+        → c.moves ≡ t.now.moves.now → LiteralsPass c
+        → move_count c ≤ length words.old / need_words → WordsTo c (move_count c) words.new }
 {
     for i in 0..t.move_count() {
-        literal_passes(t, i, words);
+        literal_passes(t, counts, i, words);
     }
 }

@@ -9,6 +9,8 @@ use Rattle.std.proofs.Math.Bool.{or-false}
 use Rattle.std.specs.Int.Bits.{bit_and}
 use Rattle.std.proofs.lemmas.Nat.{and_le_l, and_le_r}
 use borrow.Author.Tests.{eq-eqb, eqb-true, ne_eqb, not-true, not-false, leb-true, le-leb}
+use Rattle.std.proofs.Math.Decide.{dec_le}
+use borrow.Author.Tests.{le-ltb}
 use Rattle.meaning.specs.Rows.{least, some, most64}
 use Rattle.meaning.proofs.Laws.Rows.{which, same_test, and_l, and_r, and_both, false_by, false_not, not_both, some_yes, some_intro, least_to, least_before, least_passes}
 use Rattle.meaning.proofs.Laws.Bits.{or_bit, and_bit, no_bit, other_bit, same_bits}
@@ -253,6 +255,13 @@ module _ (l : List ℕ) (a : Needs) (i n : ℕ) where
   pub apart_end : n ≤ i → first_apart l a i n ≡ i
   unfolding least
   apart_end h = let z : n - i ≡ 0 = omega arith in rw z
+
+  -- a move past the end of the words clashes with none
+  pub apart_past : (i < n → length l / need_words ≤ i) → first_apart l a i n ≡ i
+  apart_past h = elim (dec_le n i) [
+    | yes e ↦ apart_end e
+    | no e ↦ (let f : i < n = omega arith in apart_here f (rw (le-ltb i (length l / need_words) (h f))))
+  ]
 
   -- those passed over clash, the one found does not
   pub apart_from : (r : ℕ) → r ≡ first_apart l a i n → i ≤ r

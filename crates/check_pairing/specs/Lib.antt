@@ -1,3 +1,4 @@
 pub mod Words
 pub mod WordsLaws
+pub mod SameLaws
 pub mod Once

@@ -13,6 +13,7 @@ ghost use Rattle.check_tables.specs.Verdicts.{Checked, literal_check, idle_check
 ghost use Rattle.check_tables.specs.Verdicts.{table_checks, need_checks, move_checks};
 ghost use Rattle.check_tables.specs.Verdicts.{flip_flop_check, is_refused, LiteralsPassed};
 
+use check_literals::LiteralCounts;
 use check_needs::Needs;
 use meaning::Refusal;
 use tables::{Chart, ChartTables};
@@ -87,8 +88,9 @@ fn judge_literal(t: &ChartTables<'_>, needs: &mut [u64]) -> Result<(), Refusal>
         × (is_refused result ≡ false → move_count (given t.now) ≤ length needs.old / need_words
         → WordsTo (given t.now) (move_count (given t.now)) needs.new) }
 {
+    let counts = LiteralCounts::of(t);
     for i in 0..t.move_count() {
-        if !check_literals::literal_passes(t, i, needs) {
+        if !check_literals::literal_passes(t, counts, i, needs) {
             return Err(Refusal::Literal(i));
         }
     }

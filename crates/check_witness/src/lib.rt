@@ -10,6 +10,7 @@ ghost use Rattle.tables.specs.Given.{given};
 ghost use Rattle.check_needs.specs.Words.{need_words, WordsTo};
 ghost use Rattle.check_witness.specs.Shown.{no_witness, OverlapFound, Witnessed};
 
+use check_literals::LiteralCounts;
 use check_needs::{Needs, ThingWords};
 use meaning::Refusal;
 use tables::{Chart, ChartTables};
@@ -60,7 +61,7 @@ fn find(t: &ChartTables<'_>, i: usize) -> Witness
     ensures { OverlapFound (given t.now) i result }
 {
     let mut words = [0u64; Chart::MOVES * Needs::WORDS];
-    check_literals::fill(t, &mut words);
+    check_literals::fill(t, LiteralCounts::of(t), &mut words);
     let j = check_overlap::earlier(t, &words, i).unwrap();
     show(t, &words, j, i)
 }

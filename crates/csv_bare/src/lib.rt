@@ -20,11 +20,18 @@ fn digits(limit: u64, bytes: &[u8], from: usize, first: u64) -> BareNumber
     requires { from ≤ length bytes.now }
     ensures { result ≡ digits_from limit (drop from bytes.now) from first }
 {
+    // no digit follows a 0, and no number is 0 after that
+    if first == 0 {
+        return BareNumber {
+            end: from,
+            value: first,
+        };
+    }
     let tenth = limit / 10;
     let mut n = first;
     for i in from..bytes.len() {
         let b = bytes[i];
-        if !b.is_ascii_digit() || n == 0 || tenth <= n {
+        if !b.is_ascii_digit() || tenth <= n {
             return BareNumber { end: i, value: n };
         }
         n = 10 * n + u64::from(b - b'0');

@@ -6,6 +6,9 @@ use Rattle.format.specs.declared.Phase.{Phase}
 use Rattle.format.specs.declared.Reading.{Reading}
 use Rattle.format.specs.Automata.Phases as Phases
 
+pub is_at_once : (w : Phase) (s : Reading) → Once (λ r. r ≡ Phases.at w s)
+is_at_once w s = is_once (Phases.at w s)
+
 pub to_once : (w : Phase) (s : Reading) → Once (λ r. r ≡ Phases.to w s)
 to_once w s = is_once (Phases.to w s)
 

@@ -6,6 +6,13 @@ ghost use Rattle.format.specs.Automata.Phases as Phases;
 
 use format::{Phase, Reading};
 
+// Whether the reading stands at this phase: for callers who follow a list word by word. Here each function is a match.
+pub fn is_at(w: Phase, s: Reading) -> bool
+    ensures { result ≡ Phases.at w s }
+{
+    s.phase as u8 == w as u8
+}
+
 // The reading with another phase.
 pub fn to(w: Phase, s: Reading) -> Reading
     ensures { result ≡ Phases.to w s }

@@ -16,8 +16,8 @@ use meaning::{Operand, Operator};
 pub struct Registers {
     pub result: bool,
     pub deferred: bool,
-    pub time: u32,
     pub input: bool,
+    pub time: u32,
     pub pt: u32,
     pub qs: u64,
     pub outputs: u64,
@@ -119,16 +119,29 @@ fn evaluate(flip_flops: &[u8], x: u64, i: Operator, s: Registers) -> Registers
     }
 }
 
-// One word; one that is no instruction does nothing.
+// One instruction; none does nothing.
 #[tactic(auto, unfolding(crate::specs::Effect::running, crate::specs::Effect::flip_flops_after))]
-pub fn run_word(flip_flops: &mut [u8], x: u64, w: u32, s: Registers) -> Registers
-    ensures { (result ≡ running x flip_flops.old (decoded w) s)
-        × (flip_flops.new ≡ flip_flops_after (decoded w) s.result flip_flops.old) }
+pub fn run_instruction(
+    flip_flops: &mut [u8],
+    x: u64,
+    i: Option<Operator>,
+    s: Registers,
+) -> Registers
+    ensures { (result ≡ running x flip_flops.old i s)
+        × (flip_flops.new ≡ flip_flops_after i s.result flip_flops.old) }
 {
-    let Some(i) = word_decode::decode(w) else {
+    let Some(i) = i else {
         return s;
     };
     let t = evaluate(flip_flops, x, i, s);
     il_stores::change(flip_flops, i, s.result);
     t
+}
+
+// One word; one that is no instruction does nothing.
+pub fn run_word(flip_flops: &mut [u8], x: u64, w: u32, s: Registers) -> Registers
+    ensures { (result ≡ running x flip_flops.old (decoded w) s)
+        × (flip_flops.new ≡ flip_flops_after (decoded w) s.result flip_flops.old) }
+{
+    run_instruction(flip_flops, x, word_decode::decode(w), s)
 }

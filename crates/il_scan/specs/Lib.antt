@@ -1,4 +1,5 @@
 pub mod Run
+pub mod Advance
 pub mod Row
 pub mod RowLaws
 pub mod Follow

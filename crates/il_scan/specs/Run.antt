@@ -1,6 +1,7 @@
--- What a scan computes of the words. Follow.antt proves that the instructions of an accepted program do the same.
+-- What the functions compute of the words: all of them, and up to the next CAL. Follow.antt proves that the
+-- instructions of an accepted program do the same.
 use Rattle.format.specs.Decode.{Decoded}
-use Rattle.std.specs.Prelude.{ℕ, false, cond, List, [], ◌∷◌, length, get_or, set, ltb}
+use Rattle.std.specs.Prelude.{ℕ, suc, Bool, true, false, cond, List, [], ◌∷◌, length, get_or, set, ltb}
 use Rattle.meaning.specs.Scan.{blank}
 use Rattle.meaning.specs.declared.Block.{Block}
 use Rattle.format.specs.Decode.{decoded}
@@ -9,6 +10,30 @@ use Rattle.il_values.specs.Value.{with_bit, qs_of}
 use Rattle.il_instruction.specs.Effect.{with_qs, running, flip_flops_after}
 use Rattle.il_called.specs.Due.{due}
 use Rattle.il_block.specs.Called.{called_with}
+use Rattle.il_scan.specs.declared.Stop.{Stop}
+
+-- where the words up to a CAL, or all of them, have led
+pub record Reached : Type 0 where
+  pub stop : Stop
+  pub flip_flops : List ℕ
+
+abbrev pub stopped_at : ℕ → ℕ → Registers → Stop
+stopped_at at k s = record { at = at; due = true; block = k; input = s.input; pt = s.pt; running = s }
+
+abbrev pub ended_at : ℕ → Registers → Stop
+ended_at at s = record { at = at; due = false; block = 0; input = s.input; pt = s.pt; running = s }
+
+unfoldable pub advanced : ℕ → ℕ → List ℕ → ℕ → Registers → List ℕ → Reached
+advanced x c [] at s fs = record { stop = ended_at at s; flip_flops = fs }
+advanced x c (w ∷ ws) at s fs = cond (ltb (due c (decoded w)) c)
+    (record { stop = stopped_at (suc at) (due c (decoded w)) s; flip_flops = fs })
+    (advanced x c ws (suc at) (running x fs (decoded w) s) (flip_flops_after (decoded w) s.result fs))
+
+-- after CAL of the block that was due, whose Q is now q
+unfoldable pub resumed : Stop → Bool → Stop
+resumed p q = ended_at p.at (with_qs (with_bit p.running.qs p.block q) p.running)
+
+-- ---- the scan
 
 -- where a scan stands
 pub record ScanPoint : Type 0 where

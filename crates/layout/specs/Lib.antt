@@ -1,3 +1,4 @@
 pub mod Laid
 pub mod LaidLaws
+pub mod SameLaws
 pub mod Once

@@ -24,10 +24,10 @@ pub struct Layout {
 
 // "A super-state with n sub-states gets the number of significant bits of n - 1: 0 for n = 1." A leaf's group is
 // empty too.
-fn width(n: u16) -> u32
+fn width(n: usize) -> u32
     ensures { result ≡ width n }
 {
-    u16::BITS - n.saturating_sub(1).leading_zeros()
+    usize::BITS - n.saturating_sub(1).leading_zeros()
 }
 
 // How many states are laid out: none where there are more than a chart may have.
@@ -96,7 +96,7 @@ pub fn lay_out(t: &ChartTables<'_>) -> Layout
     let mut widths = [0; 256];
     let mut total = 0;
     for a in 0..laid_states(t) {
-        let w = width(counts[a]);
+        let w = width(usize::from(counts[a]));
         first[a] = total as u16;
         widths[a] = w as u8;
         total += w;
@@ -116,7 +116,7 @@ pub fn flip_flops(t: &ChartTables<'_>) -> u32
     let counts = sub_states_each(t);
     let mut many = 0;
     for n in &counts[..laid_states(t)] {
-        many += width(*n);
+        many += width(usize::from(*n));
     }
     many
 }

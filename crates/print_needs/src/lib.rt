@@ -17,6 +17,7 @@ ghost use Rattle.print_needs.specs.Names.{NamesPut, gap};
 ghost use Rattle.print_needs.specs.Lines.{cell_of, sets_of, way_of, pair_of, overlap_of};
 ghost use Rattle.print_needs.specs.Page.{NeedsPrintedTo};
 
+use check_literals::LiteralCounts;
 use check_needs::ThingWords;
 use check_witness::Witness;
 use meaning::Refusal;
@@ -163,7 +164,7 @@ fn put_move(out: &mut [u8], at: usize, t: &ChartTables<'_>, i: usize) -> usize
         → BytesPut out.old at (needs_line (given t.now) i) out.new result }
 {
     let p = put_way(out, at, t, i);
-    match check_literals::needs_of(t, i) {
+    match check_literals::needs_of(t, LiteralCounts::of(t), i) {
         Some(needs) => put_sets(out, p, needs.on, needs.off),
         None => p,
     }

@@ -12,6 +12,7 @@ pub fn same(s: &[u8], word: &[u8]) -> bool
 }
 
 // A decimal from low to high. "Numbers have no leading zero."
+#[inline(never)]
 fn decimal_of(s: &[u8], low: u32, high: u32) -> Option<u32>
     ensures { Spells [] [] low high s.now result }
 {
@@ -34,7 +35,9 @@ fn decimal_of(s: &[u8], low: u32, high: u32) -> Option<u32>
     Some(n as u32)
 }
 
-// A decimal from low to high between a head and a tail.
+// A decimal from low to high between a head and a tail. Inlined, so that the compiler knows the lengths of both; the
+// digits are read in one place.
+#[inline(always)]
 pub fn numbered(s: &[u8], head: &[u8], tail: &[u8], low: u32, high: u32) -> Option<u32>
     ensures { Spells head.now tail.now low high s.now result }
 {

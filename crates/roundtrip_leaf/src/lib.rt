@@ -2,11 +2,10 @@
 #![tactic(auto)]
 
 ghost use Rattle.std.specs.Prelude.{◌≡◌, ◌<◌, ◌≤◌};
-ghost use Rattle.meaning.specs.Tables.{state_count};
+ghost use Rattle.meaning.specs.Tables.{Tables, state_count};
 ghost use Rattle.meaning.specs.Rules.{Rules};
 ghost use Rattle.meaning.specs.Stands.{code_at, coded_sub_state, coded_leaf};
 ghost use Rattle.layout.specs.Laid.{LaidOut};
-ghost use Rattle.tables.specs.Given.{given};
 
 use layout::Layout;
 use tables::{Chart, ChartTables};
@@ -30,8 +29,8 @@ fn code_at(flip_flops: &[u8], first: u16, width: u8) -> usize
 
 // The sub-state that the flip-flops give the super-state a.
 fn shown_sub_state(t: &ChartTables<'_>, layout: &Layout, flip_flops: &[u8], a: usize) -> usize
-    ensures { Rules (given t.now) → LaidOut (given t.now) layout.now → a < state_count (given t.now)
-        → result ≡ coded_sub_state (given t.now) flip_flops.now a }
+    ensures { (c : Tables) → c.states ≡ t.now.states.now → Rules c → LaidOut c layout.now → a < state_count c
+        → result ≡ coded_sub_state c flip_flops.now a }
 {
     if Chart::STATES <= a {
         return 0;
@@ -42,8 +41,8 @@ fn shown_sub_state(t: &ChartTables<'_>, layout: &Layout, flip_flops: &[u8], a: u
 
 // The leaf that they lead to, where the states are laid out so: following from the root.
 pub fn laid_leaf(t: &ChartTables<'_>, layout: &Layout, flip_flops: &[u8]) -> usize
-    ensures { Rules (given t.now) → LaidOut (given t.now) layout.now
-        → (result ≡ coded_leaf (given t.now) flip_flops.now) × (result ≤ 256) }
+    ensures { (c : Tables) → c.states ≡ t.now.states.now → Rules c → LaidOut c layout.now
+        → (result ≡ coded_leaf c flip_flops.now) × (result ≤ 256) }
 {
     let mut s = 0;
     for k in 0..Chart::DEPTH {

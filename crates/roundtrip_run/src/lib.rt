@@ -3,10 +3,10 @@
 #![tactic(auto)]
 
 ghost use Rattle.std.specs.Prelude.{◌≡◌, length, set};
+ghost use Rattle.meaning.specs.Tables.{Tables};
 ghost use Rattle.meaning.specs.Rules.{Rules};
 ghost use Rattle.meaning.specs.Stands.{coded_leaf};
 ghost use Rattle.layout.specs.Laid.{LaidOut};
-ghost use Rattle.tables.specs.Given.{given};
 ghost use Rattle.roundtrip_run.specs.AsRead.{chart_words, AsRead};
 ghost use Rattle.roundtrip_run.specs.Going.{ProgramCleared};
 
@@ -25,8 +25,8 @@ fn show(
     outputs: &mut [u64],
 )
     ensures { (outputs.new ≡ set outputs.old i word)
-        × (Rules (given t.now) → LaidOut (given t.now) layout.now
-        → leaves.new ≡ set leaves.old i (coded_leaf (given t.now) flip_flops.now)) }
+        × ((c : Tables) → c.states ≡ t.now.states.now → Rules c → LaidOut c layout.now
+        → leaves.new ≡ set leaves.old i (coded_leaf c flip_flops.now)) }
 {
     let leaf = roundtrip_leaf::laid_leaf(t, layout, flip_flops);
     chart_moving::remember(leaves, i, leaf);
@@ -43,9 +43,10 @@ fn run_scans(
     leaves: &mut [u16],
     outputs: &mut [u64],
 )
-    ensures { ProgramCleared (given t.now) layout.now words.now flip_flops.old
+    ensures { (c : Tables) → c.scan_step ≡ t.now.chart.step → c.states ≡ t.now.states.now
+        → ProgramCleared c layout.now words.now flip_flops.old
         → length leaves.old ≡ length inputs.now → length outputs.old ≡ length inputs.now
-        → AsRead (given t.now) inputs.now leaves.new outputs.new }
+        → AsRead c inputs.now leaves.new outputs.new }
 {
     let blank = Block {
         input: false,
@@ -70,9 +71,10 @@ pub fn run_words(
     leaves: &mut [u16],
     outputs: &mut [u64],
 )
-    ensures { Rules (given t.now) → chart_words (given t.now) ≡ words.now
-        → length leaves.old ≡ length inputs.now → length outputs.old ≡ length inputs.now
-        → AsRead (given t.now) inputs.now leaves.new outputs.new }
+    ensures { (c : Tables) → c.scan_step ≡ t.now.chart.step → c.states ≡ t.now.states.now → Rules c
+        → chart_words c ≡ words.now → length leaves.old ≡ length inputs.now
+        → length outputs.old ≡ length inputs.now
+        → AsRead c inputs.now leaves.new outputs.new }
 {
     let layout = layout::lay_out(t);
     if Chart::FLIP_FLOPS < layout.total {

@@ -1,3 +1,4 @@
 pub mod Given
 pub mod Signs
+pub mod Same
 pub mod Once

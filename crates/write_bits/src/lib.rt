@@ -9,7 +9,6 @@ ghost use Rattle.meaning.specs.Written.{bits_from, group_bits, path_bits, kind_t
 ghost use Rattle.meaning.specs.declared.Operand.{Operand};
 ghost use Rattle.layout.specs.Laid.{LaidOut};
 ghost use Rattle.write_lines.specs.Fit.{PutIfRoom};
-ghost use Rattle.tables.specs.Given.{given};
 ghost use Rattle.write_bits.specs.Sent.{lines, test, TestsPut, or_true, bit_at, LaidTables, Risen};
 ghost use Rattle.write_operators.specs.Ways.{operator_bytes, next, base_of};
 
@@ -105,7 +104,8 @@ pub fn put_group(out: &mut [u8], spot: Spot, layout: &Layout, a: usize, s: usize
 // The states from s up to the root, and how many of them are below it.
 fn rise(t: &ChartTables<'_>, s: usize, path: &mut [usize; 10]) -> usize
     requires { length path.old ≡ 10 }
-    ensures { (result ≤ 9) × (Rules (given t.now) → Risen (given t.now) s path.new result) }
+    ensures { (result ≤ 9) × ((c : Tables) → c.states ≡ t.now.states.now → Rules c
+        → Risen c s path.new result) }
 {
     let mut at = s;
     for k in 0..Chart::DEPTH + 1 {
@@ -120,9 +120,9 @@ fn rise(t: &ChartTables<'_>, s: usize, path: &mut [usize; 10]) -> usize
 
 // "A state is the AND of its path's code bits, root down"; as stores, the groups above it set to lead to it.
 pub fn put_state(out: &mut [u8], spot: Spot, t: &ChartTables<'_>, layout: &Layout, s: usize) -> Spot
-    ensures { LaidTables (given t.now) layout.now → s < state_count (given t.now)
-        → TestsPut out.old spot (path_bits (given t.now)
-        (bit_at (base_of layout.now.total spot.way)) (depth (given t.now) s) s) out.new result }
+    ensures { (c : Tables) → c.states ≡ t.now.states.now → LaidTables c layout.now
+        → s < state_count c → TestsPut out.old spot
+        (path_bits c (bit_at (base_of layout.now.total spot.way)) (depth c s) s) out.new result }
 {
     let mut path = [0usize; 10];
     let deep = rise(t, s, &mut path);
@@ -155,7 +155,8 @@ fn put_kind(out: &mut [u8], spot: Spot, wanted: bool, kind: Kind) -> Spot
 
 // "literals in order (%IXi or Tn.Q)"
 pub fn put_literals(out: &mut [u8], spot: Spot, t: &ChartTables<'_>, i: usize) -> Spot
-    ensures { TestsPut out.old spot (literal_tests (given t.now) i) out.new result }
+    ensures { (c : Tables) → c.moves ≡ t.now.moves.now
+        → TestsPut out.old spot (literal_tests c i) out.new result }
 {
     let mut p = spot;
     for j in 0..8 {

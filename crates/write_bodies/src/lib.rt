@@ -1,9 +1,8 @@
 // The bodies over a chart's pairs: "the OR of its pairs' states".
 #![tactic(auto)]
 
-ghost use Rattle.std.specs.Prelude.{ℕ, ◌+◌, ◌-◌, ◌<◌};
-ghost use Rattle.meaning.specs.Tables.{state_count};
-ghost use Rattle.tables.specs.Given.{given};
+ghost use Rattle.std.specs.Prelude.{◌≡◌, ℕ, ◌+◌, ◌-◌, ◌<◌};
+ghost use Rattle.meaning.specs.Tables.{Tables, state_count};
 ghost use Rattle.meaning.specs.Programs.{chain_of, body_of};
 ghost use Rattle.meaning.specs.Written.{state_tests, chain, pairs_body};
 ghost use Rattle.write_lines.specs.Fit.{PutIfRoom};
@@ -17,9 +16,9 @@ use write_operators::Way;
 
 // A state as the first of a body or of a bracket.
 fn put_chain(out: &mut [u8], at: usize, t: &ChartTables<'_>, layout: &Layout, s: usize) -> usize
-    ensures { LaidTables (given t.now) layout.now → s < state_count (given t.now)
-        → PutIfRoom out.old at (lines (chain_of (chain (state_tests (given t.now) s))))
-        out.new result }
+    ensures { (c : Tables) → c.states ≡ t.now.states.now → LaidTables c layout.now
+        → s < state_count c
+        → PutIfRoom out.old at (lines (chain_of (chain (state_tests c s)))) out.new result }
 {
     let first = Spot {
         at,
@@ -31,8 +30,9 @@ fn put_chain(out: &mut [u8], at: usize, t: &ChartTables<'_>, layout: &Layout, s:
 
 // "OR( on its own line, its lines, ) on its own line"
 fn put_bracket(out: &mut [u8], at: usize, t: &ChartTables<'_>, layout: &Layout, s: usize) -> usize
-    ensures { LaidTables (given t.now) layout.now → s < state_count (given t.now)
-        → PutIfRoom out.old at (lines (bracket_of (state_tests (given t.now) s))) out.new result }
+    ensures { (c : Tables) → c.states ≡ t.now.states.now → LaidTables c layout.now
+        → s < state_count c
+        → PutIfRoom out.old at (lines (bracket_of (state_tests c s))) out.new result }
 {
     let p = write_lines::put_part(out, at, b"OR(\n");
     let q = put_chain(out, p, t, layout, s);
@@ -49,9 +49,9 @@ fn put_brackets(
     from: usize,
     to: usize,
 ) -> usize
-    ensures { LaidTables (given t.now) layout.now → Known (given t.now) pairs.now from to
-        → PutIfRoom out.old at (lines (brackets (given t.now) pairs.now from (to - from)))
-        out.new result }
+    ensures { (c : Tables) → c.states ≡ t.now.states.now → LaidTables c layout.now
+        → Known c pairs.now from to
+        → PutIfRoom out.old at (lines (brackets c pairs.now from (to - from))) out.new result }
 {
     let mut p = at;
     for i in from..to {
@@ -70,9 +70,9 @@ fn put_or(
     from: usize,
     to: usize,
 ) -> usize
-    ensures { LaidTables (given t.now) layout.now → Known (given t.now) pairs.now from to
-        → PutIfRoom out.old at (lines (or_of (given t.now) pairs.now from (to - from)))
-        out.new result }
+    ensures { (c : Tables) → c.states ≡ t.now.states.now → LaidTables c layout.now
+        → Known c pairs.now from to
+        → PutIfRoom out.old at (lines (or_of c pairs.now from (to - from))) out.new result }
 {
     if to <= from {
         return write_lines::put_part(out, at, b"LD FALSE\n");
@@ -111,11 +111,11 @@ pub fn put_pairs(
     pairs: &[u16],
     n: usize,
 ) -> Cursor
-    ensures { LaidTables (given t.now) layout.now → (many : ℕ)
-        → Pairs (given t.now) many pairs.now → Reaches pairs.now n cursor.row
+    ensures { (c : Tables) → c.states ≡ t.now.states.now → LaidTables c layout.now
+        → (many : ℕ) → Pairs c many pairs.now → Reaches pairs.now n cursor.row
         → Reaches pairs.now (n + 1) result.row
-        × PutIfRoom out.old cursor.at (lines (body_of (pairs_body (given t.now) pairs.now n)))
-        out.new result.at }
+        × PutIfRoom out.old cursor.at (lines (body_of (pairs_body c pairs.now n))) out.new
+        result.at }
 {
     let row = run_end(pairs, cursor.row, n);
     Cursor {

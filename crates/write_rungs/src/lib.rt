@@ -13,7 +13,6 @@ ghost use Rattle.write_lines.specs.Fit.{PutIfRoom};
 ghost use Rattle.write_bits.specs.Sent.{lines, LaidTables};
 ghost use Rattle.write_rungs.specs.Rungs.{stores_of, is_nil, call_of};
 ghost use Rattle.meaning.specs.Rules.{Rules};
-ghost use Rattle.tables.specs.Given.{given};
 ghost use Rattle.write_bodies.specs.Pairs.{Reaches};
 ghost use Rattle.write_rungs.specs.Sections.{timers_to, moves_to, copies_to, outputs_to};
 
@@ -32,9 +31,9 @@ fn put_initials(
     layout: &Layout,
     target: usize,
 ) -> usize
-    ensures { LaidTables (given t.now) layout.now → target < state_count (given t.now)
-        → PutIfRoom out.old at
-        (lines (initial_stores (given t.now) (8 - depth (given t.now) target) target))
+    ensures { (c : Tables) → c.states ≡ t.now.states.now → LaidTables c layout.now
+        → target < state_count c
+        → PutIfRoom out.old at (lines (initial_stores c (8 - depth c target) target))
         out.new result }
 {
     let mut spot = Spot {
@@ -63,8 +62,9 @@ fn put_stores(
     target: usize,
     mark: usize,
 ) -> usize
-    ensures { LaidTables (given t.now) layout.now → target < state_count (given t.now)
-        → PutIfRoom out.old at (lines (stores_of (given t.now) target mark)) out.new result }
+    ensures { (c : Tables) → c.states ≡ t.now.states.now → LaidTables c layout.now
+        → target < state_count c
+        → PutIfRoom out.old at (lines (stores_of c target mark)) out.new result }
 {
     let spot = Spot {
         at,
@@ -80,17 +80,17 @@ fn put_stores(
 
 // Whether such a move sets no flip-flop: its stores are measured over no byte.
 fn sets_none(t: &ChartTables<'_>, layout: &Layout, target: usize, mark: usize) -> bool
-    ensures { LaidTables (given t.now) layout.now → target < state_count (given t.now)
-        → result ≡ is_nil (stores_of (given t.now) target mark) }
+    ensures { (c : Tables) → c.states ≡ t.now.states.now → LaidTables c layout.now
+        → target < state_count c → result ≡ is_nil (stores_of c target mark) }
 {
     put_stores(&mut [], 0, t, layout, target, mark) == 0
 }
 
 // 2. "source, then literals in order .., then S or R". "A rung that would set no flip-flop is left out."
 pub fn put_move(out: &mut [u8], at: usize, t: &ChartTables<'_>, layout: &Layout, i: usize) -> usize
-    ensures { LaidTables (given t.now) layout.now → i < move_count (given t.now)
-        → PutIfRoom out.old at (lines (flat_map rung_of (move_rungs (given t.now) i))) out.new
-        result }
+    ensures { (c : Tables) → c.states ≡ t.now.states.now → LaidTables c layout.now
+        → c.moves ≡ t.now.moves.now → i < move_count c
+        → PutIfRoom out.old at (lines (flat_map rung_of (move_rungs c i))) out.new result }
 {
     let target = t.target(i);
     let mark = t.mark(i);
@@ -139,11 +139,12 @@ fn put_timer(
     n: usize,
     time: u32,
 ) -> Cursor
-    ensures { LaidTables (given t.now) layout.now → Reaches t.now.timer_pairs.now n cursor.row
-        → n < 65536 → time ≡ preset (given t.now) n
+    ensures { (c : Tables) → c.states ≡ t.now.states.now → LaidTables c layout.now
+        → c.timer_pairs ≡ t.now.timer_pairs.now
+        → Reaches t.now.timer_pairs.now n cursor.row → n < 65536 → time ≡ preset c n
         → Reaches t.now.timer_pairs.now (n + 1) result.row
-        × PutIfRoom out.old cursor.at
-        (lines (timer_rung_of n (timer_rung (given t.now) n))) out.new result.at }
+        × PutIfRoom out.old cursor.at (lines (timer_rung_of n (timer_rung c n))) out.new
+        result.at }
 {
     let body = write_bodies::put_pairs(out, cursor, t, layout, t.timer_pairs, n);
     Cursor {
@@ -154,9 +155,9 @@ fn put_timer(
 
 // "Timers, rising"
 pub fn put_timers(out: &mut [u8], at: usize, t: &ChartTables<'_>, layout: &Layout) -> usize
-    ensures { LaidTables (given t.now) layout.now
-        → PutIfRoom out.old at (lines (timers_to (given t.now) (timer_count (given t.now))))
-        out.new result }
+    ensures { (c : Tables) → c.states ≡ t.now.states.now → LaidTables c layout.now
+        → c.presets ≡ t.now.presets.now → c.timer_pairs ≡ t.now.timer_pairs.now
+        → PutIfRoom out.old at (lines (timers_to c (timer_count c))) out.new result }
 {
     let mut cursor = Cursor { at, row: 0 };
     for (i, time) in t.presets.iter().enumerate() {
@@ -167,9 +168,9 @@ pub fn put_timers(out: &mut [u8], at: usize, t: &ChartTables<'_>, layout: &Layou
 
 // "Moves in order"
 pub fn put_moves(out: &mut [u8], at: usize, t: &ChartTables<'_>, layout: &Layout) -> usize
-    ensures { LaidTables (given t.now) layout.now
-        → PutIfRoom out.old at (lines (moves_to (given t.now) (move_count (given t.now))))
-        out.new result }
+    ensures { (c : Tables) → c.states ≡ t.now.states.now → LaidTables c layout.now
+        → c.moves ≡ t.now.moves.now
+        → PutIfRoom out.old at (lines (moves_to c (move_count c))) out.new result }
 {
     let mut p = at;
     for i in 0..t.move_count() {
@@ -198,10 +199,11 @@ fn put_output(
     layout: &Layout,
     o: u32,
 ) -> Cursor
-    ensures { LaidTables (given t.now) layout.now → Reaches t.now.output_pairs.now o cursor.row
+    ensures { (c : Tables) → c.states ≡ t.now.states.now → LaidTables c layout.now
+        → c.output_pairs ≡ t.now.output_pairs.now → Reaches t.now.output_pairs.now o cursor.row
         → o < 65536 → Reaches t.now.output_pairs.now (o + 1) result.row
-        × PutIfRoom out.old cursor.at
-        (lines (flat_map rung_of (output_rungs (given t.now) o))) out.new result.at }
+        × PutIfRoom out.old cursor.at (lines (flat_map rung_of (output_rungs c o))) out.new
+        result.at }
 {
     let body = write_bodies::put_pairs(out, cursor, t, layout, t.output_pairs, o as usize);
     let p = write_lines::put_part(out, body.at, b"ST ");
@@ -213,9 +215,9 @@ fn put_output(
 
 // "Outputs, rising"
 pub fn put_outputs(out: &mut [u8], at: usize, t: &ChartTables<'_>, layout: &Layout) -> usize
-    ensures { LaidTables (given t.now) layout.now
-        → PutIfRoom out.old at (lines (outputs_to (given t.now) t.now.chart.outputs))
-        out.new result }
+    ensures { (c : Tables) → c.states ≡ t.now.states.now → LaidTables c layout.now
+        → c.output_pairs ≡ t.now.output_pairs.now → c.outputs ≡ t.now.chart.outputs
+        → PutIfRoom out.old at (lines (outputs_to c t.now.chart.outputs)) out.new result }
 {
     let mut cursor = Cursor { at, row: 0 };
     for o in 1..=t.chart.outputs {

@@ -96,7 +96,9 @@ fn put_name(out: &mut [u8], at: usize, n: u16) -> usize
     }
 }
 
-// The rest of a line that begins with the name of a block.
+// The rest of a line that begins with the name of a block. Inlined, here and below, so that the compiler knows the
+// lengths of the parts and needs no memmove.
+#[inline(always)]
 pub fn put_named(out: &mut [u8], at: usize, n: u16, tail: &[u8]) -> usize
     ensures { PutIfRoom out.old at (bytes "T" ++ (decimal n ++ tail.now)) out.new
         result }
@@ -106,6 +108,7 @@ pub fn put_named(out: &mut [u8], at: usize, n: u16, tail: &[u8]) -> usize
 }
 
 // A line on a block, or on a part of it: an operator, its name, and what follows that.
+#[inline(always)]
 pub fn put_on_block(out: &mut [u8], at: usize, word: &[u8], n: u16, tail: &[u8]) -> usize
     ensures { PutIfRoom out.old
         at (word.now ++ (bytes "T" ++ (decimal n ++ tail.now))) out.new result }
@@ -115,6 +118,7 @@ pub fn put_on_block(out: &mut [u8], at: usize, word: &[u8], n: u16, tail: &[u8])
 }
 
 // A number of any size between two parts of a line.
+#[inline(always)]
 fn put_between(out: &mut [u8], at: usize, head: &[u8], n: u64, tail: &[u8]) -> usize
     ensures { PutIfRoom out.old at (head.now ++ (decimal n ++ tail.now)) out.new result }
 {

@@ -1,3 +1,4 @@
+pub mod Wrote
 pub mod TextLaws
 pub mod Once
 pub mod Texts

@@ -28,7 +28,7 @@ pub fn put_operand(out: &mut [u8], at: usize, m: u32) -> usize
 }
 
 // A line with an operand, by its operator. Inlined, so that the compiler knows the operator's length.
-#[inline]
+#[inline(always)]
 fn put_on(out: &mut [u8], at: usize, operator: &[u8], m: u32) -> usize
     ensures { PutIfRoom out.old at (line (operator.now ++ operand_text (operand_of m))) out.new result }
 {

@@ -7,6 +7,7 @@ use Rattle.meaning.specs.Hierarchy.{is_leaf}
 use Rattle.meaning.specs.Rules.{Rules}
 use Rattle.meaning.proofs.Laws.Tree.{initial_leaf, initial_sub}
 use Rattle.tables.specs.Given.{given}
+use Rattle.tables.specs.Same.{initial_same}
 use Rattle.chart_moving.specs.Moves.{set_below}
 use Rattle.chart_moving.proofs.set_below.Goals as goal
 
@@ -19,29 +20,27 @@ initial_known c R s h = elim (which (is_leaf c s)) [
 
 pub returns-then-below-eq0 : goal.returns-then-below-eq0
 unfolding set_below
-returns-then-below-eq0 c R h =
+returns-then-below-eq0 c c' e R h =
     let b = c.loop-k in
-    let d = given c.args.t.now in
-    let i = b.invariant R h in
+    let i = b.invariant c' e R h in
     let z : 9 - b.k ≡ suc (9 - (b.k + 1)) = omega arith in
-    let p = c.initial-below.ensures in
+    let p = c.initial-below.ensures ∙ sym (initial_same c' (given c.args.t.now) e b.s) in
     let few = R.size.few_states in
-    c.remember.ensures (omega (arith, p, initial_known d R b.s i.0))
-    ∙ rw p (rw (z, set_below, eq-eqb (initial d b.s) 0 (sym p ∙ c.if-below-eq0.true)) at i.1)
+    c.remember.ensures (omega (arith, p, initial_known c' R b.s i.0))
+    ∙ rw p (rw (z, set_below, eq-eqb (initial c' b.s) 0 (sym p ∙ c.if-below-eq0.true)) at i.1)
 
 pub loop-k-preserved : goal.loop-k-preserved
 unfolding set_below
-loop-k-preserved c R h =
+loop-k-preserved c c' e R h =
     let b = c.loop-k in
-    let d = given c.args.t.now in
-    let i = b.invariant R h in
+    let i = b.invariant c' e R h in
     let z : 9 - b.k ≡ suc (9 - (b.k + 1)) = omega arith in
-    let p = c.initial-below.ensures in
+    let p = c.initial-below.ensures ∙ sym (initial_same c' (given c.args.t.now) e b.s) in
     let few = R.size.few_states in
-    let v = initial_known d R b.s i.0 in
-    let n : initial d b.s ≢ 0 = λ x. c.if-below-eq0.false (p ∙ x) in
-    (rw p v, rw (c.remember.ensures (omega (arith, p)), p) (rw (z, set_below, ne_eqb (initial d b.s) 0 n) at i.1))
+    let v = initial_known c' R b.s i.0 in
+    let n : initial c' b.s ≢ 0 = λ x. c.if-below-eq0.false (p ∙ x) in
+    (rw p v, rw (c.remember.ensures (omega (arith, p)), p) (rw (z, set_below, ne_eqb (initial c' b.s) 0 n) at i.1))
 
 pub returns : goal.returns
 unfolding set_below
-returns c R h = let b = c.loop-k in let z : 9 - b.k ≡ 0 = omega arith in rw z at (b.invariant R h).1
+returns c c' e R h = let b = c.loop-k in let z : 9 - b.k ≡ 0 = omega arith in rw z at (b.invariant c' e R h).1

@@ -5,4 +5,4 @@ use Rattle.chart_state_read.proofs.state_length.Goals as goal
 
 pub returns : goal.returns
 unfolding lent_length timer_count
-returns c R = rw (← c.super_states.ensures.1 R)
+returns c d e p R = rw (← c.super_states.ensures.1 d e R, p)

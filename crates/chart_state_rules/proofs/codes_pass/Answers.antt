@@ -24,10 +24,9 @@ every_of p n false h =
 pub returns : goal.returns
 returns c =
     let m = c.args.memory.now in
-    let n = c.state_count-n.result in
+    let n = c.args.n in
     let some : n - 0 ≡ n = omega arith in
-    let w = every_of (λ a. ltb (remembered m a) n) n c.all.result
+    every_of (λ a. ltb (remembered m a) n) n c.all.result
     (cases_from_all _ _ _ (λ a. ltb (remembered m a) n ≡ true) (λ a. ltb (remembered m a) n ≡ false) c.all.ensures.ran
     (YieldsList-from_range 0 n n refl some)
-    (λ x q k. search (rules, tests)) (λ x q k. search (rules, tests))) in
-    rw (← c.state_count-n.ensures) w
+    (λ x q k. search (rules, tests)) (λ x q k. search (rules, tests)))

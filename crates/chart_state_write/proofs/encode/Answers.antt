@@ -7,7 +7,6 @@ use Rattle.meaning.proofs.Laws.Machine.{valid_sound}
 use Rattle.meaning.specs.Lent.{lent_length, lent_of}
 use Rattle.chart_scan.specs.Held.{held}
 use Rattle.chart_state_read.specs.CodesLaws.{codes_lent}
-use Rattle.tables.specs.Given.{given}
 use Rattle.chart_state_write.proofs.encode.Goals as goal
 
 front : (l ts : List ℕ) (n k : ℕ) → k < n → k < length l → get_or l k 0 ≡ get_or (take n l ++ ts) k 0
@@ -37,12 +36,11 @@ loop-i-preserved c k h g =
 
 pub returns : goal.returns
 unfolding lent_of lent_length timer_count
-returns c R C lt v h =
+returns c d e p R C lt v h =
     let a = c.args in
     let b = c.loop-i in
-    let d = given a.t.now in
     let S = valid_sound d R (held d a.memory.now a.timers.now) v in
-    let w = c.write_codes-from.ensures.1 R (omega (arith, h)) in
+    let w = c.write_codes-from.ensures.1 d e R (omega (arith, h)) in
     let l = c.write_codes-from.new.state in
     let k : length l ≡ c.write_codes-from.result + timer_count d = omega (arith, h, w.0) in
     whole b.state l a.timers.now c.write_codes-from.result (timer_count d) (omega (arith, k)) k (omega (arith, lt, R.size.few_timers)) (λ j z y. b.invariant j (omega arith) y)

@@ -6,6 +6,6 @@ use Rattle.check_needs.proofs.first_apart.Given as goal
 
 abbrev pub invariant-loop-j : goal.invariant-loop-j
 invariant-loop-j l = record {
-  within : l.j ≤ max l.from l.to;
+  within : l.j ≤ max l.from l.known;
   same : first_apart l.words l.a l.from l.to ≡ first_apart l.words l.a l.j l.to;
 }

@@ -16,19 +16,22 @@ pub returns-then-not-literal_passes : goal.returns-then-not-literal_passes
 returns-then-not-literal_passes c =
     let d = given c.args.t.now in
     let b = c.loop-i in
-    let f = c.literal_passes.ensures.value in
+    let k = c.of-counts.ensures in
+    let f = c.literal_passes.ensures.value d (sym k.0) (sym k.1) refl in
     (sym (fails_at (literal_check d) b.i (omega (arith, c.move_count-i-end.ensures, c.loop-i-test.true)) b.invariant.pass (sym f.0 ∙ c.if-not-literal_passes.true)), λ z. absurd (true≢false z))
 
 pub loop-i-preserved : goal.loop-i-preserved
 loop-i-preserved c =
     let d = given c.args.t.now in
     let b = c.loop-i in
+    let k = c.of-counts.ensures in
     let f = c.literal_passes.ensures in
+    let g = f.value d (sym k.0) (sym k.1) refl in
     let z = c.if-not-literal_passes.false in
     record {
       long = f.long ∙ b.invariant.long;
-      pass = below_more (λ m. literal_passes d m ≡ true) b.i b.invariant.pass (sym f.value.0 ∙ z);
-      words = λ h. rw add-one (f.value.1 z (omega (arith, b.invariant.long, h, c.move_count-i-end.ensures, c.loop-i-test.true)) (b.invariant.words h));
+      pass = below_more (λ m. literal_passes d m ≡ true) b.i b.invariant.pass (sym g.0 ∙ z);
+      words = λ h. rw add-one (g.1 z (omega (arith, b.invariant.long, h, c.move_count-i-end.ensures, c.loop-i-test.true)) (b.invariant.words h));
     }
 
 pub returns : goal.returns

@@ -9,7 +9,7 @@ use Rattle.il_scan.proofs.scan.Goals.{in-Some, in-None}
 
 pub loop-w-init : goal.loop-w-init
 unfolding scan_of
-loop-w-init c = rw (c.begin-s.ensures, c.q_word.ensures)
+loop-w-init c = rw (c.first_registers-s.ensures, c.q_word.ensures)
 
 pub loop-w-preserved : goal.loop-w-preserved
 unfolding calling
@@ -17,11 +17,11 @@ loop-w-preserved c =
     let a = c.args in
     let l = c.loop-w in
     let p : ScanPoint = record { s = l.s; flip_flops = l.flip_flops; bs = l.blocks } in
-    elim c.match-word_due.branch [
+    elim c.match-instruction_due.branch [
       | in-Some w ↦ rw (w.flip_flops-is, w.blocks-is, w.s-is, w.call-q.ensures.0, w.with_bit.ensures ∙ ap (with_bit l.s.qs w.in-Some.k) w.call-q.ensures.1)
-          (sym (scan_called a.step a.x a.words.now l.w-index p _ (omega arith) w.in-Some.ensures.block w.in-Some.ensures.within) ∙ l.invariant)
-      | in-None w ↦ rw (w.flip_flops-is, w.blocks-is, w.s-is, w.run_word-s.ensures.0, w.run_word-s.ensures.1)
-          (sym (scan_ran a.step a.x a.words.now l.w-index p (omega arith) w.in-None.ensures.block) ∙ l.invariant)
+          (sym (scan_called a.step a.x a.words.now l.w-index p _ (omega arith) (rw c.decode-i.ensures at w.in-Some.ensures.block) w.in-Some.ensures.within) ∙ l.invariant)
+      | in-None w ↦ rw (w.flip_flops-is, w.blocks-is, w.s-is, w.run_instruction-s.ensures.0, w.run_instruction-s.ensures.1, c.decode-i.ensures)
+          (sym (scan_ran a.step a.x a.words.now l.w-index p (omega arith) (rw c.decode-i.ensures at w.in-None.ensures.block)) ∙ l.invariant)
     ]
 
 pub returns : goal.returns

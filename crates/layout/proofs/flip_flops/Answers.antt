@@ -16,7 +16,7 @@ overflow_add-many c =
     let a = c.loop-n.n-index in
     let n = c.laid_states.result in
     let h : a < n = omega (arith, length-take n k.result) in
-    omega (arith, c.width-many.ensures ∙ ap width (get_or-take n k.result a 0 h), width_small (get_or k.result a 0) (few_subs (given c.args.t.now) k.ensures a (omega arith)))
+    omega (arith, c.width-many.ensures ∙ ap width c.from.ensures ∙ ap width (get_or-take n k.result a 0 h), width_small (get_or k.result a 0) (few_subs (given c.args.t.now) k.ensures a (omega arith)))
 
 pub loop-n-preserved : goal.loop-n-preserved
 unfolding group_first
@@ -27,7 +27,7 @@ loop-n-preserved c =
     let a = b.n-index in
     let n = c.laid_states in
     let h : a < n.result = omega (arith, length-take n.result k.result) in
-    let v : c.width-many.result ≡ width (get_or k.result a 0) = c.width-many.ensures ∙ ap width (get_or-take n.result k.result a 0 h) in
+    let v : c.width-many.result ≡ width (get_or k.result a 0) = c.width-many.ensures ∙ ap width c.from.ensures ∙ ap width (get_or-take n.result k.result a 0 h) in
     let e = n.ensures.2 in
     let w : c.width-many.result ≡ group_width d a = v ∙ ap (λ l. width (get_or l a 0)) k.ensures ∙ tally_width d a (omega arith) in (
       omega (arith, v, width_small (get_or k.result a 0) (few_subs d k.ensures a (omega arith))),

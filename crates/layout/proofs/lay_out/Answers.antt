@@ -14,13 +14,13 @@ pub overflow_cast-widths : goal.overflow_cast-widths
 overflow_cast-widths c =
     let k = c.sub_states_each-counts in
     let a = c.loop-a.a in
-    omega (arith, c.width-w.ensures, width_small (get_or k.result a 0) (few_subs (given c.args.t.now) k.ensures a (omega arith)))
+    omega (arith, (c.width-w.ensures ∙ ap width c.from.ensures), width_small (get_or k.result a 0) (few_subs (given c.args.t.now) k.ensures a (omega arith)))
 
 pub overflow_add-total : goal.overflow_add-total
 overflow_add-total c =
     let k = c.sub_states_each-counts in
     let a = c.loop-a.a in
-    omega (arith, c.width-w.ensures, width_small (get_or k.result a 0) (few_subs (given c.args.t.now) k.ensures a (omega arith)))
+    omega (arith, (c.width-w.ensures ∙ ap width c.from.ensures), width_small (get_or k.result a 0) (few_subs (given c.args.t.now) k.ensures a (omega arith)))
 
 pub loop-a-preserved : goal.loop-a-preserved
 unfolding group_first
@@ -31,8 +31,8 @@ loop-a-preserved c =
     let b = c.loop-a in
     let i = b.invariant in
     let a = b.a in
-    let w : c.width-w.result ≡ group_width d a = c.width-w.ensures ∙ ap (λ l. width (get_or l a 0)) k.ensures ∙ tally_width d a (omega arith) in (
-      omega (arith, c.width-w.ensures, width_small (get_or k.result a 0) (few_subs d k.ensures a (omega arith))),
+    let w : c.width-w.result ≡ group_width d a = (c.width-w.ensures ∙ ap width c.from.ensures) ∙ ap (λ l. width (get_or l a 0)) k.ensures ∙ tally_width d a (omega arith) in (
+      omega (arith, (c.width-w.ensures ∙ ap width c.from.ensures), width_small (get_or k.result a 0) (few_subs d k.ensures a (omega arith))),
       rw (add-one a, i.1, i.3) (row_set (group_first d) a (omega arith)),
       rw (add-one a, i.2, w) (row_set (group_width d) a (omega arith)),
       rw (add-one a) (omega (arith, i.3)),

@@ -1,7 +1,5 @@
 -- After n numbers the names of those among them that the word has are written.
-use mathlib.Core.Path.{◌≡◌}
 use mathlib.Core.List.{◌++◌}
-use lib.ListN.{length}
 use Rattle.meaning.specs.Literals.{input_on}
 use Rattle.format.specs.Text.{decimal}
 use Rattle.format.specs.NeedsTable.{names_of}

@@ -1,6 +1,6 @@
 -- After i moves their lines stand below the line of names.
-use Rattle.std.proofs.Common.{rules, arith}
-use mathlib.Core.Path.{◌≡◌, refl, ◌∙◌}
+use Rattle.std.proofs.Common.{arith}
+use mathlib.Core.Path.{◌≡◌}
 use mathlib.Core.List.{flat_map}
 use Prim.Native.Nat.{◌+◌, ◌<◌}
 use native.Mathlib.Numerals.{add-one}

@@ -1,7 +1,5 @@
 -- After i moves their lines stand below the line of names.
-use mathlib.Core.Path.{◌≡◌}
 use mathlib.Core.List.{flat_map}
-use lib.ListN.{length}
 use Rattle.meaning.specs.Rows.{table}
 use Rattle.format.specs.NeedsTable.{needs_line}
 use Rattle.write_lines.specs.Put.{BytesPut}

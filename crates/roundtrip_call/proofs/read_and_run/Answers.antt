@@ -1,5 +1,6 @@
 -- A text that was written is read, and its words are run.
 use native.Mathlib.Omega.{arith}
+use mathlib.Core.Path.{refl}
 use Rattle.tables.specs.Given.{given}
 use Rattle.roundtrip_call.specs.WholeLaws.{read_fits, read_refused, words_front, read_done}
 use Rattle.roundtrip_call.proofs.read_and_run.Goals as goal
@@ -15,4 +16,4 @@ returns c R f h p q =
     let d = given c.args.t.now in
     let t = c.read.ensures in
     let g = c.in_ok-n.was in
-    read_done d R _ _ _ _ f h t _ g _ _ _ (c.run_words.ensures R (words_front d R _ _ _ _ f h t _ g) p q)
+    read_done d R _ _ _ _ f h t _ g _ _ _ (c.run_words.ensures d refl refl R (words_front d R _ _ _ _ f h t _ g) p q)

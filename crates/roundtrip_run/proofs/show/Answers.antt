@@ -3,4 +3,4 @@ use native.Mathlib.Omega.{arith}
 use Rattle.roundtrip_run.proofs.show.Goals as goal
 
 pub returns : goal.returns
-returns c = (c.put.ensures, λ R o. let r = c.laid_leaf-leaf.ensures R o in rw r.0 at (c.remember.ensures (omega (arith, r.1))))
+returns c = (c.put.ensures, λ c' e R o. let r = c.laid_leaf-leaf.ensures c' e R o in rw r.0 at (c.remember.ensures (omega (arith, r.1))))

@@ -1,11 +1,9 @@
 -- The tests of a state, or LD TRUE where it has none.
 use Rattle.meaning.specs.Written.{state_tests}
-use Rattle.tables.specs.Given.{given}
 use Rattle.write_bits.specs.SentLaws.{chain_put, state_tests_lem}
 use Rattle.write_bodies.proofs.put_chain.Goals as goal
 
 pub returns : goal.returns
-returns c d h =
-    let g = given c.args.t.now in
+returns c g e d h =
     let s = c.args.s in
-    chain_put (state_tests g s) (rw (state_tests_lem g s) at (c.put_state-p.ensures d h)) c.put_true.ensures
+    chain_put (state_tests g s) (rw (state_tests_lem g s) at (c.put_state-p.ensures g e d h)) c.put_true.ensures

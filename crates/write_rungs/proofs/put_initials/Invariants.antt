@@ -2,10 +2,9 @@
 use mathlib.Core.Path.{◌≡◌}
 use mathlib.Core.List.{List}
 use Prim.Native.Nat.{ℕ, ◌-◌, ◌≤◌, ◌<◌}
-use Rattle.meaning.specs.Tables.{state_count}
+use Rattle.meaning.specs.Tables.{Tables, state_count}
 use Rattle.meaning.specs.Hierarchy.{depth}
 use Rattle.meaning.specs.Written.{initial_stores}
-use Rattle.tables.specs.Given.{given}
 use Rattle.write_lines.specs.Fit.{PutIfRoom}
 use Rattle.write_operators.specs.declared.Way.TheVariants.{Store}
 use Rattle.write_bits.specs.Sent.{lines, LaidTables}
@@ -14,5 +13,7 @@ use Rattle.write_rungs.proofs.put_initials.Given as goal
 abbrev pub invariant-loop-level : goal.invariant-loop-level
 invariant-loop-level l =
     (l.spot.at ≤ 18446744073709551615)
-    × (LaidTables (given l.t) l.layout → l.target < state_count (given l.t) → (l.s < state_count (given l.t)) × (l.spot.way ≡ Store)
-    × ((m : List ℕ) (r : ℕ) → PutIfRoom l.out l.spot.at (lines (initial_stores (given l.t) (8 - l._level) l.s)) m r → PutIfRoom l.initial.out l.at (lines (initial_stores (given l.t) (8 - depth (given l.t) l.target) l.target)) m r))
+    × ((c : Tables) → c.states ≡ l.t.states.now → LaidTables c l.layout → l.target < state_count c
+    → (l.s < state_count c) × (l.spot.way ≡ Store)
+    × ((m : List ℕ) (r : ℕ) → PutIfRoom l.out l.spot.at (lines (initial_stores c (8 - l._level) l.s)) m r
+    → PutIfRoom l.initial.out l.at (lines (initial_stores c (8 - depth c l.target) l.target)) m r))
