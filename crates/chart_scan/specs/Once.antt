@@ -14,6 +14,7 @@ use Rattle.check_needs.specs.Words.{hold_words, need_words, needs_at}
 use Rattle.check_needs.specs.WordsLaws.{Small}
 use Rattle.meaning.proofs.Laws.Once.{three}
 use Rattle.tables.specs.declared.ChartTables.{ChartTables}
+use Rattle.tables.specs.Given.{given}
 use Rattle.check_pairing.specs.Words.{PairedWords}
 use Rattle.chart_scan.specs.Held.{TablesGiven, Empty, StateScanned, held}
 
@@ -53,3 +54,40 @@ pub run_once : (c : Tables) (t : ChartTables) (rs ws qs m ts xs leaves outputs :
     → Valid k (held k m ts) → length leaves ≡ length xs → length outputs ≡ length xs → StateScanned k (held k m ts) xs (held k m' t') l o)
 run_once c t rs ws qs m ts xs leaves outputs a b d e f g i j n x y p q =
     let u = p c a b d e f g i j n in let v = q c a b d e f g i j n in three (u.state ∙ sym v.state, u.leaves ∙ sym v.leaves, u.outputs ∙ sym v.outputs)
+
+-- ---- the same of the lent tables: no second answer for these, whatever an answer is for others with their slices
+
+pub make_needs_given_once : (t : ChartTables) (l : List ℕ) (i : ℕ) (v : ThingWords) → Rules (given t)
+    → move_count (given t) ≤ length l / need_words → i < move_count (given t) → Small v
+    → OnceSeen (λ m. hold_words (needs_at m i) v) (λ m. Rules (given t) → move_count (given t) ≤ length l / need_words
+    → HoldTo (given t) (move_count (given t)) m)
+make_needs_given_once t l i v f g h a m n p q = p f g i v h a ∙ sym (q f g i v h a)
+
+pub make_links_given_once : (t : ChartTables) (l : List ℕ) (i : ℕ) → Rules (given t) → 768 ≤ length l
+    → ((s : ℕ) → get_or l s 0 ≡ 0) → i < 256 + move_count (given t)
+    → OnceSeen (λ m. get_or m i 0) (λ m. Rules (given t) → 768 ≤ length l → ((s : ℕ) → get_or l s 0 ≡ 0)
+    → LinkedTo (given t) (move_count (given t)) m)
+make_links_given_once t l i f g z h m n p q = same_links (given t) m n i h (p f g z) (q f g z)
+
+pub chosen_given_once : (t : ChartTables) (links ns : List ℕ) (l : ℕ) (on : ThingWords) → Rules (given t)
+    → LinkedTo (given t) (move_count (given t)) links → HoldTo (given t) (move_count (given t)) ns
+    → move_count (given t) ≤ length ns / need_words → l < 256 → Small on
+    → Once (λ r. Rules (given t) → LinkedTo (given t) (move_count (given t)) links
+    → HoldTo (given t) (move_count (given t)) ns → move_count (given t) ≤ length ns / need_words → l < 256 → Small on
+    → MoveIs (given t) (chosen (given t) (read on) l) r)
+chosen_given_once t links ns l on g h i j k m r s p q = same_move (given t) _ r s (p g h i j k m) (q g h i j k m)
+
+pub run_given_once : (t : ChartTables) (rs ws qs m ts xs leaves outputs : List ℕ)
+    → Rules (given t) → PairedWords (given t) (given t).timer_pairs rs → Empty (given t) ws qs
+    → state_count (given t) ≤ length m → length ts ≡ 32
+    → Valid (given t) (held (given t) m ts) → length leaves ≡ length xs → length outputs ≡ length xs
+    → OnceSeen {A = List ℕ × List ℕ × List ℕ × List ℕ} {B = State × List ℕ × List ℕ}
+    (λ (m', t', l, o). (held (given t) m' t', l, o)) (λ (m', t', l, o).
+    Rules (given t) → PairedWords (given t) (given t).timer_pairs rs → Empty (given t) ws qs
+    → state_count (given t) ≤ length m → length ts ≡ 32
+    → Valid (given t) (held (given t) m ts) → length leaves ≡ length xs → length outputs ≡ length xs
+    → StateScanned (given t) (held (given t) m ts) xs (held (given t) m' t') l o)
+run_given_once t rs ws qs m ts xs leaves outputs b d e f g i j n x y p q =
+    let u = p b d e f g i j n in
+    let v = q b d e f g i j n in
+    three (u.state ∙ sym v.state, u.leaves ∙ sym v.leaves, u.outputs ∙ sym v.outputs)

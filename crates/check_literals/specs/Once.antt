@@ -72,3 +72,23 @@ fill_once t s ws i n l r z h k x y p q =
     let c = with_moves s t.moves.now in
     let e = with_timers s t.moves.now in
     same_needs c i n (needs_at x i) (needs_at y i) h k (p c refl e refl l r i z) (q c refl e refl l r i z)
+
+-- ---- the same of the lent tables: no second answer for these, whatever an answer is for others with their slices
+
+pub needs_of_given_once : (t : ChartTables) (i n : ℕ) → 1 ≤ n → n ≤ 64
+    → OnceSeen (bits_of n) (λ r. (is_some r ≡ literal_passes (given t) i)
+    × IfSome r (λ a. NeedWords (given t) i literal_places a))
+needs_of_given_once t i n h k x y p q = same_found (given t) i n h k x y p q
+
+pub literal_passes_given_once : (t : ChartTables) (i : ℕ) (ws : List ℕ)
+    → OnceSeen {A = Bool × List ℕ} (λ (r, m). r) (λ (r, m). (length m ≡ length ws) × (r ≡ literal_passes (given t) i)
+    × (r ≡ true → i < length ws / need_words → WordsTo (given t) i ws → WordsTo (given t) (suc i) m))
+literal_passes_given_once t i ws x y p q = p.1 ∙ sym q.1
+
+pub fill_given_once : (t : ChartTables) (ws : List ℕ) (i n : ℕ) → LiteralsPass (given t)
+    → move_count (given t) ≤ length ws / need_words
+    → i < move_count (given t) → 1 ≤ n → n ≤ 64
+    → OnceSeen (λ m. bits n (needs_at m i)) (λ m. LiteralsPass (given t)
+    → move_count (given t) ≤ length ws / need_words → WordsTo (given t) (move_count (given t)) m)
+fill_given_once t ws i n l r z h k x y p q =
+    same_needs (given t) i n (needs_at x i) (needs_at y i) h k (p l r i z) (q l r i z)

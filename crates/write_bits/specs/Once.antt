@@ -8,6 +8,7 @@ use Rattle.meaning.specs.Rules.{SubState, Rules}
 use Rattle.meaning.specs.Programs.{Test}
 use Rattle.meaning.specs.Written.{group_bits, path_bits, literal_tests}
 use Rattle.tables.specs.declared.ChartTables.{ChartTables}
+use Rattle.tables.specs.Given.{given}
 use Rattle.layout.specs.Laid.{LaidOut}
 use Rattle.layout.specs.declared.Layout.{Layout}
 use Rattle.write_lines.specs.Fit.{PutIfRoom}
@@ -40,3 +41,16 @@ put_true_once l s = one_fit l s.at (lines (or_true s.way))
 pub put_literals_once : (c : Tables) (l : List ℕ) (s : Spot) (t : ChartTables) (i : ℕ) → c.moves ≡ t.moves.now → Fits l s (literal_tests c i)
     → Once {A = Spot × List ℕ} (λ (r, m). (k : Tables) → k.moves ≡ t.moves.now → TestsPut l s (literal_tests k i) m r)
 put_literals_once c l s t i e h x z p q = one_sent l s _ h x z (p c e) (q c e)
+
+-- ---- the same of the lent tables: no second answer for these, whatever an answer is for others with their slices
+
+pub put_state_given_once : (t : ChartTables) (l : List ℕ) (s : Spot) (y : Layout) (a : ℕ) → LaidTables (given t) y
+    → a < state_count (given t)
+    → Fits l s (path_bits (given t) (bit_at (base_of y.total s.way)) (depth (given t) a) a)
+    → Once {A = Spot × List ℕ} (λ (r, m). LaidTables (given t) y → a < state_count (given t)
+    → TestsPut l s (path_bits (given t) (bit_at (base_of y.total s.way)) (depth (given t) a) a) m r)
+put_state_given_once t l s y a d e h x z p q = one_sent l s _ h x z (p d e) (q d e)
+
+pub put_literals_given_once : (t : ChartTables) (l : List ℕ) (s : Spot) (i : ℕ) → Fits l s (literal_tests (given t) i)
+    → Once {A = Spot × List ℕ} (λ (r, m). TestsPut l s (literal_tests (given t) i) m r)
+put_literals_given_once t l s i = one_sent l s (literal_tests (given t) i)

@@ -8,6 +8,7 @@ use Rattle.meaning.specs.Layout.{flip_flop_count}
 use Rattle.meaning.specs.Programs.{rung_of}
 use Rattle.meaning.specs.Written.{move_rungs, copy_rungs}
 use Rattle.tables.specs.declared.ChartTables.{ChartTables}
+use Rattle.tables.specs.Given.{given}
 use Rattle.layout.specs.declared.Layout.{Layout}
 use Rattle.write_lines.specs.Fit.{PutIfRoom}
 use Rattle.write_lines.specs.Once.{RoomFor, one_fit}
@@ -45,3 +46,30 @@ pub put_outputs_once : (c : Tables) (l : List ℕ) (at : ℕ) (t : ChartTables) 
     → RoomFor l at (lines (outputs_to c t.chart.outputs))
     → Once {A = ℕ × List ℕ} (λ (r, m). (k : Tables) → k.states ≡ t.states.now → LaidTables k y → k.output_pairs ≡ t.output_pairs.now → k.outputs ≡ t.chart.outputs → PutIfRoom l at (lines (outputs_to k t.chart.outputs)) m r)
 put_outputs_once c l at t y g d e f h x z p q = one_fit l at _ h x z (p c g d e f) (q c g d e f)
+
+-- ---- the same of the lent tables: no second answer for these, whatever an answer is for others with their slices
+
+pub put_move_given_once : (t : ChartTables) (l : List ℕ) (at : ℕ) (y : Layout) (i : ℕ) → LaidTables (given t) y
+    → i < move_count (given t)
+    → RoomFor l at (lines (flat_map rung_of (move_rungs (given t) i)))
+    → Once {A = ℕ × List ℕ} (λ (r, m). LaidTables (given t) y → i < move_count (given t)
+    → PutIfRoom l at (lines (flat_map rung_of (move_rungs (given t) i))) m r)
+put_move_given_once t l at y i d f h x z p q = one_fit l at _ h x z (p d f) (q d f)
+
+pub put_timers_given_once : (t : ChartTables) (l : List ℕ) (at : ℕ) (y : Layout) → LaidTables (given t) y
+    → RoomFor l at (lines (timers_to (given t) (timer_count (given t))))
+    → Once {A = ℕ × List ℕ} (λ (r, m). LaidTables (given t) y
+    → PutIfRoom l at (lines (timers_to (given t) (timer_count (given t)))) m r)
+put_timers_given_once t l at y d h x z p q = one_fit l at _ h x z (p d) (q d)
+
+pub put_moves_given_once : (t : ChartTables) (l : List ℕ) (at : ℕ) (y : Layout) → LaidTables (given t) y
+    → RoomFor l at (lines (moves_to (given t) (move_count (given t))))
+    → Once {A = ℕ × List ℕ} (λ (r, m). LaidTables (given t) y
+    → PutIfRoom l at (lines (moves_to (given t) (move_count (given t)))) m r)
+put_moves_given_once t l at y d h x z p q = one_fit l at _ h x z (p d) (q d)
+
+pub put_outputs_given_once : (t : ChartTables) (l : List ℕ) (at : ℕ) (y : Layout) → LaidTables (given t) y
+    → RoomFor l at (lines (outputs_to (given t) t.chart.outputs))
+    → Once {A = ℕ × List ℕ} (λ (r, m). LaidTables (given t) y
+    → PutIfRoom l at (lines (outputs_to (given t) t.chart.outputs)) m r)
+put_outputs_given_once t l at y d h x z p q = one_fit l at _ h x z (p d) (q d)
